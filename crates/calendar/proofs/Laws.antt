@@ -1,0 +1,48 @@
+-- Where the Relevant Years start. Assumes nothing.
+use mathlib.Core.Path.{_≡_, refl}
+use mathlib.Core.Bool.{Bool, true, false, cond}
+use Prim.Native.Nat.{ℕ, zero, suc, _+_, _%_, _≤_, _<_}
+use native.Mathlib.Omega.{arith}
+use Rattle.calendar.specs.Years.{isLeap, daysIn, daysTo, yearStart}
+
+-- a calendar year has at least 365 days
+least-days : (year : ℕ) → 365 ≤ daysIn year
+least-days year = by (isLeap year)
+  where
+    by : (leap : Bool) → 365 ≤ cond leap 366 365
+    by true = omega arith
+    by false = omega arith
+
+-- a year starts before the next
+pub starts : (year : ℕ) → 1 ≤ year → yearStart year < yearStart (suc year)
+unfolding yearStart daysTo
+starts zero l = absurd (omega arith)
+starts (suc zero) l = omega arith
+starts (suc (suc n)) l = omega (arith, least-days (2019 + suc n))
+
+-- each year starts at a midnight
+pub at-midnight : (year : ℕ) → yearStart year % 1440 ≡ 0
+unfolding yearStart
+at-midnight zero = refl
+at-midnight (suc zero) = refl
+at-midnight (suc (suc n)) = omega arith
+
+-- year 1 starts at minute 0
+pub year-one : yearStart 1 ≡ 0
+unfolding yearStart
+year-one = refl
+
+-- year 2 starts 335 days after year 1
+pub year-two : yearStart 2 ≡ 482400
+unfolding yearStart daysTo
+year-two = refl
+
+-- year 3 starts 366 days after year 2
+pub year-three : yearStart 3 ≡ 1009440
+unfolding yearStart daysTo
+year-three = refl
+
+-- year 25 starts on 1 January 2043
+pub last-start : yearStart 25 ≡ 12579840
+unfolding yearStart daysTo
+last-start = refl

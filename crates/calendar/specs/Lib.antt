@@ -1,0 +1,2 @@
+-- The calendar, and the minutes of a Relevant Year.
+pub mod Years

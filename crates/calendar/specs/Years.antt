@@ -1,0 +1,62 @@
+-- Document 01, "Years and the licence book": the minutes of a Relevant Year, by the calendar.
+use mathlib.Core.Bool.{Bool, true, false, cond, not, _&&_, _||_}
+use mathlib.Core.List.{List, [], _∷_}
+use Prim.Native.Nat.{ℕ, zero, suc, _+_, _-_, _*_, _%_}
+use lib.Dec.{eqb, leb}
+use Rattle.refusals.specs.Refusals.{Rows, accepted, numberOf}
+use Rattle.refusals.specs.declared.Refusal.the-variants.{BadYear}
+use Rattle.calendar.specs.declared.YearMinutes.{YearMinutes}
+use Rattle.calendar.specs.declared.YearMinutes.the-variants.{Span, Refused}
+
+-- a leap year: 4 divides it, and 100 does not, unless 400 does
+abbrev pub isLeap : ℕ → Bool
+isLeap year = eqb (year % 400) 0 || (eqb (year % 4) 0 && not (eqb (year % 100) 0))
+
+abbrev pub daysIn : ℕ → ℕ
+daysIn year = cond (isLeap year) 366 365
+
+-- the days from 1 January 2019 to 1 January n years later
+unfoldable pub daysTo : ℕ → ℕ
+daysTo zero = 0
+daysTo (suc n) = daysTo n + daysIn (2019 + n)
+
+-- "Relevant Year 1 starts at minute 0", 00:00 on 31 January 2019, 30 days into that year;
+-- "Years 2 to 25 start at 00:00 on 1 January 2020 to 2043"
+unfoldable pub yearStart : ℕ → ℕ
+unfolding daysTo
+yearStart zero = 0
+yearStart (suc zero) = 0
+yearStart (suc (suc n)) = 1440 * (daysTo (suc n) - 30)
+
+abbrev pub lastYear : ℕ
+lastYear = 25
+
+-- "A year ends where the next begins; year 25 ends at the regime end."
+abbrev pub yearEnd : ℕ → ℕ → ℕ
+yearEnd year regimeEnd = cond (eqb year lastYear) regimeEnd (yearStart (suc year))
+
+-- ---- a year's first minute and its end
+abbrev pub goodYear : ℕ → Bool
+goodYear year = leb 1 year && leb year lastYear
+
+abbrev pub yearRows : ℕ → Rows
+yearRows year = (BadYear, not (goodYear year)) ∷ []
+
+abbrev pub firstOf : ℕ → ℕ
+firstOf year = cond (accepted (yearRows year)) (yearStart year) 0
+
+abbrev pub endOf : ℕ → ℕ → ℕ
+endOf year regimeEnd = cond (accepted (yearRows year)) (yearEnd year regimeEnd) 0
+
+-- the number and the figures of each case of the answer
+abbrev pub minutesNumber : YearMinutes → ℕ
+minutesNumber (Span first end) = 0
+minutesNumber (Refused why) = numberOf why
+
+abbrev pub firstFigure : YearMinutes → ℕ
+firstFigure (Span first end) = first
+firstFigure (Refused why) = 0
+
+abbrev pub endFigure : YearMinutes → ℕ
+endFigure (Span first end) = end
+endFigure (Refused why) = 0

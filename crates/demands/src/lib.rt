@@ -1,0 +1,1 @@
+// The demands as theorems: proofs/Demand3.antt. It has no code.

@@ -1,0 +1,5 @@
+-- Laws on tests, lists, sums and tables.
+pub mod Tests
+pub mod Lists
+pub mod Places
+pub mod Tables

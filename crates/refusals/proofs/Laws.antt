@@ -1,0 +1,108 @@
+-- A number determines its refusal, and 0 says that no row applies. Assumes nothing.
+use mathlib.Core.Path.{_≡_, refl, sym, ap, _∙_}
+use mathlib.Core.Bool.{Bool, true, false, cond}
+use mathlib.Core.List.{List, [], _∷_, map}
+use Prim.Native.Nat.{ℕ, zero, suc, _<_}
+use native.Mathlib.Omega.{arith}
+use native.Mathlib.Nat.{not-suc-le-zero}
+use borrow.Author.Tests.{eq-eqb, ne-eqb}
+use lib.ListN.{getD}
+use Rattle.refusals.specs.declared.Refusal.{Refusal}
+use Rattle.refusals.specs.declared.Refusal.the-variants.{BrokenLog, BadSpan, BadPower, SharedMinute, FullLog, NoSuchStart, BadStretch, BadBook, BadYear, FloorAboveCap, TooLarge, BadPeriod, Malformed, NoRoom}
+use Rattle.refusals.specs.declared.Answer.{Answer}
+use Rattle.refusals.specs.declared.Answer.the-variants.{Done, Refused}
+use Rattle.refusals.specs.Refusals.{numberOf, answerNumber, lowest, accepted, Rows, inTurn}
+
+-- the refusals by their numbers, from 1
+byNumber : List Refusal
+byNumber =
+    BrokenLog
+    ∷ BadSpan
+    ∷ BadPower
+    ∷ SharedMinute
+    ∷ FullLog
+    ∷ NoSuchStart
+    ∷ BadStretch
+    ∷ BadBook
+    ∷ BadYear
+    ∷ FloorAboveCap
+    ∷ TooLarge
+    ∷ BadPeriod
+    ∷ Malformed
+    ∷ NoRoom
+    ∷ []
+
+named : ℕ → Refusal
+named zero = NoRoom
+named (suc n) = getD byNumber n NoRoom
+
+named-number : (r : Refusal) → named (numberOf r) ≡ r
+unfolding named byNumber
+named-number BrokenLog = refl
+named-number BadSpan = refl
+named-number BadPower = refl
+named-number SharedMinute = refl
+named-number FullLog = refl
+named-number NoSuchStart = refl
+named-number BadStretch = refl
+named-number BadBook = refl
+named-number BadYear = refl
+named-number FloorAboveCap = refl
+named-number TooLarge = refl
+named-number BadPeriod = refl
+named-number Malformed = refl
+named-number NoRoom = refl
+
+pub same-refusal : (r s : Refusal) → numberOf r ≡ numberOf s → r ≡ s
+same-refusal r s e = sym (named-number r) ∙ ap named e ∙ named-number s
+
+pub never-zero : (r : Refusal) → 0 < numberOf r
+never-zero BrokenLog = omega arith
+never-zero BadSpan = omega arith
+never-zero BadPower = omega arith
+never-zero SharedMinute = omega arith
+never-zero FullLog = omega arith
+never-zero NoSuchStart = omega arith
+never-zero BadStretch = omega arith
+never-zero BadBook = omega arith
+never-zero BadYear = omega arith
+never-zero FloorAboveCap = omega arith
+never-zero TooLarge = omega arith
+never-zero BadPeriod = omega arith
+never-zero Malformed = omega arith
+never-zero NoRoom = omega arith
+
+pub same-answer : (a b : Answer) → answerNumber a ≡ answerNumber b → a ≡ b
+same-answer Done Done e = refl
+same-answer Done (Refused s) e = absurd (not-suc-le-zero {n = 0} (omega (arith, never-zero s)))
+same-answer (Refused r) Done e = absurd (not-suc-le-zero {n = 0} (omega (arith, never-zero r)))
+same-answer (Refused r) (Refused s) e = ap Refused (same-refusal r s e)
+
+-- where no row applies, each row's test fails, one after the other
+abbrev pub AllClear : Rows → Type 0
+AllClear [] = Unit {0}
+AllClear (row ∷ rows) = (row .1 ≡ false) × AllClear rows
+
+pub all-clear : (rows : Rows) → lowest rows ≡ 0 → AllClear rows
+all-clear [] e = tt
+all-clear (row ∷ rows) e = by (row .1) e (all-clear rows)
+  where
+    by : (b : Bool) → cond b (numberOf (row .0)) (lowest rows) ≡ 0 → (lowest rows ≡ 0 → AllClear rows) → (b ≡ false) × AllClear rows
+    by true e f = absurd (not-suc-le-zero {n = 0} (omega (arith, never-zero (row .0))))
+    by false e f = (refl, f e)
+
+-- ---- what an answer says of the rows that it was found by
+pub done-clear : (a : Answer) (rows : Rows) → answerNumber a ≡ lowest rows → a ≡ Done → lowest rows ≡ 0
+done-clear a rows n e = sym n ∙ ap answerNumber e
+
+pub done-accepted : (a : Answer) (rows : Rows) → answerNumber a ≡ lowest rows → a ≡ Done → accepted rows ≡ true
+done-accepted a rows n e = eq-eqb (lowest rows) 0 (done-clear a rows n e)
+
+pub refused-not : (a : Answer) (rows : Rows) (why : Refusal) → answerNumber a ≡ lowest rows → a ≡ Refused why → accepted rows ≡ false
+refused-not a rows why n e =
+    let k : lowest rows ≡ numberOf why = sym n ∙ ap answerNumber e in
+    ne-eqb (lowest rows) 0 (λ z. not-suc-le-zero {n = 0} (omega (arith, never-zero why)))
+
+-- the numbers in the order in which they are looked for: each of 1 to 14 once
+pub turns : map numberOf inTurn ≡ 8 ∷ 1 ∷ 2 ∷ 3 ∷ 4 ∷ 5 ∷ 6 ∷ 7 ∷ 9 ∷ 12 ∷ 11 ∷ 10 ∷ 13 ∷ 14 ∷ []
+turns = refl

@@ -1,0 +1,2 @@
+-- Laws on the numbers.
+pub mod Laws
