@@ -8,9 +8,10 @@ use mathlib.Core.List.{List, []}
 use Prim.Native.Nat.{ℕ, _+_, _-_, _*_, _≤_}
 use native.Mathlib.Nat.{sub-self}
 use native.Mathlib.Omega.{arith}
-use borrow.Author.Tests.{ne-eqb}
-use lib.Dec.{eqb}
+use borrow.Author.Tests.{ne-eqb, leb-true}
+use lib.Dec.{eqb, leb}
 use Rattle.lists.specs.Lists.{sumFrom}
+use Rattle.lists.proofs.Tests.{and-left}
 use Rattle.lists.proofs.Lists.{sum-cut, sum-same}
 use Rattle.refusals.specs.Refusals.{lowest, accepted, answerNumber}
 use Rattle.outage.specs.declared.Entry.{Entry}
@@ -18,14 +19,16 @@ use Rattle.outage.specs.declared.Log.{Log}
 use Rattle.outage.specs.declared.Logged.{Logged}
 use Rattle.outage.specs.declared.losing.LostEnergy.{LostEnergy}
 use Rattle.outage.specs.declared.losing.LostEnergy.the-variants.{MwMinutes}
-use Rattle.outage.specs.Log.{slots, mostMw, covers, validLog, live, holding, filed, without, lostIn, lostEnergy}
+use Rattle.outage.specs.Log.{slots, mostMw, firstRegimeEnd, lastRegimeEnd, covers, validLog, live, holding, filed, without, lostIn, lostEnergy}
 use Rattle.outage.specs.Calls.{emptyLog, enterRows, cancelRows, lostRows, lostOf, lostFigure}
 use Rattle.outage.proofs.Holding.{valid-says}
 use Rattle.outage.proofs.Only.{EnterGives, CancelGives, LostGives, only-lost}
+use Rattle.outage.proofs.Most.{valid-most, stretch-by-load, lost-given}
 use Rattle.calendar.specs.Years.{yearStart, yearEnd}
+use Rattle.calendar.proofs.Laws.{year-within}
 use Rattle.demands.specs.Log.{Call, after, answered, events, standing, sameEntry, Holds}
 use Rattle.demands.proofs.Standing.{history-stands, calls-end}
-use Rattle.demands.proofs.Load.{kept-most, stretch-by-load, lost-given, year-within, in-order, none-shared, free-zero}
+use Rattle.demands.proofs.Slots.{in-order, none-shared, free-zero}
 
 -- the entries accepted and not since cancelled, in a run of calls from the empty log
 abbrev pub kept : ℕ → List Call → List Entry
@@ -72,9 +75,7 @@ none-in-none log a = by (accepted (lostRows log a a))
 
 -- 3. No minute of a valid log loses more than 1,000 MW.
 pub minute-most : (log : Log) → validLog log ≡ true → (minute : ℕ) → lostIn (live log) minute ≤ mostMw
-minute-most log v =
-    let k = valid-says slots (log .entries) (log .count) (log .«regime_end») v in
-    kept-most (log .«regime_end») (live log) (k .kept)
+minute-most log v = valid-most log v
 
 -- Where no minute loses more than 1,000 MW, no stretch loses more than 1,000 times its minutes: over any entries, overlapping or not.
 pub stretch-most : (es : List Entry) (a b : ℕ) → ((minute : ℕ) → lostIn es minute ≤ mostMw) → lostEnergy a b es ≤ mostMw * (b - a)
@@ -88,7 +89,8 @@ year-most log year v l m r g =
     let first = yearStart year in
     let end = yearEnd year (log .«regime_end») in
     let k = valid-says slots (log .entries) (log .count) (log .«regime_end») v in
-    let w = year-within (log .«regime_end») year (k .end) l m in
+    let end-in-range = and-left (leb firstRegimeEnd (log .«regime_end»)) (leb (log .«regime_end») lastRegimeEnd) (k .end) in
+    let w = year-within (log .«regime_end») year (omega (arith, leb-true firstRegimeEnd (log .«regime_end») end-in-range)) l m in
     let e : r ≡ MwMinutes (lostEnergy first end (live log)) = lost-by-minutes log first end v (w .0) (w .1) r g in
     let f : lostFigure r ≡ lostEnergy first end (live log) = ap lostFigure e in
     (e ∙ ap MwMinutes (sym f), omega (arith, f, stretch-most (live log) first end (minute-most log v)))

@@ -1,0 +1,64 @@
+-- Where the entries of a valid log stand. Assumes nothing.
+use mathlib.Core.Path.{_≡_, ap, _∙_}
+use mathlib.Core.Bool.{true, not, _&&_}
+use Prim.Native.Nat.{ℕ, _+_, _-_, _≤_, _<_}
+use native.Mathlib.Nat.{not-suc-le-zero}
+use native.Mathlib.Omega.{arith}
+use borrow.Author.Tests.{leb-true, ltb-true}
+use lib.Dec.{leb, ltb}
+use lib.ListN.{length, getD, drop, length-drop}
+use lib.Seq.{getD-take, getD-drop}
+use Rattle.lists.proofs.Tests.{and-left, and-right}
+use Rattle.lists.proofs.Lists.{all-at, pairwise-at}
+use Rattle.outage.specs.declared.Entry.{Entry}
+use Rattle.outage.specs.declared.Log.{Log}
+use Rattle.outage.specs.Log.{slots, covers, goodEntry, sharesMinute, isZero, zeroEntry, live}
+use Rattle.outage.proofs.Order.{good-span, apart-says}
+use Rattle.outage.proofs.Holding.{Valid, parts, live-length, zero-is}
+use Rattle.demands.specs.Log.{slot}
+use Rattle.demands.proofs.Keeping.{Sound}
+
+module _ (log : Log) (o : Sound log) where
+  whole : Valid slots (log .entries) (log .count) (log .«regime_end»)
+  whole = parts log (o .rows) (o .valid)
+
+  -- a slot before the count is an entry
+  at-live : (i : ℕ) → i < log .count → getD (live log) i zeroEntry ≡ slot log i
+  at-live i h = getD-take (log .count) (log .entries) i zeroEntry h
+
+  count-live : (i : ℕ) → i < log .count → i < length (live log)
+  count-live i h = omega (arith, live-length log (o .rows) (o .valid))
+
+  good-at : (i : ℕ) → i < log .count → goodEntry (log .«regime_end») (slot log i) ≡ true
+  good-at i h = rw (at-live i h) at (all-at (goodEntry (log .«regime_end»)) zeroEntry (live log) (whole .kept .good) i (count-live i h))
+
+  -- an entry ends before a later one starts
+  ends-before : (i j : ℕ) → i < j → j < log .count → slot log i .end ≤ slot log j .start
+  ends-before i j h k =
+      let m : i < log .count = omega arith in
+      let r = pairwise-at (λ (x y : Entry). leb (x .start) (y .start)) zeroEntry (live log) (whole .kept .order) i j h (count-live j k) in
+      let q = pairwise-at (λ (x y : Entry). not (sharesMinute x y)) zeroEntry (live log) (whole .kept .shared) i j h (count-live j k) in
+      apart-says (slot log i) (slot log j) (good-span (log .«regime_end») (slot log i) (good-at i m)) (good-span (log .«regime_end») (slot log j) (good-at j k))
+      (leb-true (slot log i .start) (slot log j .start) (rw (at-live i m, at-live j k) at r))
+      (rw (at-live i m, at-live j k) at q)
+
+  pub in-order : (i j : ℕ) → i < j → j < log .count → slot log i .start < slot log j .start
+  in-order i j h k = omega (arith, ends-before i j h k, good-span (log .«regime_end») (slot log i) (good-at i (omega arith)))
+
+  pub none-shared : (i j minute : ℕ) → i < j → j < log .count → covers minute (slot log i) ≡ true → covers minute (slot log j) ≡ true → ⊥
+  none-shared i j minute h k c d =
+      not-suc-le-zero {n = 0}
+      (omega (
+        arith,
+        ends-before i j h k,
+        ltb-true minute (slot log i .end) (and-right (leb (slot log i .start) minute) (ltb minute (slot log i .end)) c),
+        leb-true (slot log j .start) minute (and-left (leb (slot log j .start) minute) (ltb minute (slot log j .end)) d),
+      ))
+
+  pub free-zero : (i : ℕ) → log .count ≤ i → i < slots → slot log i ≡ zeroEntry
+  free-zero i h k =
+      let e : log .count + (i - log .count) ≡ i = omega arith in
+      let f : getD (drop (log .count) (log .entries)) (i - log .count) zeroEntry ≡ slot log i =
+      getD-drop (log .count) (log .entries) (i - log .count) zeroEntry ∙ ap (slot log) e in
+      let z = all-at isZero zeroEntry (drop (log .count) (log .entries)) (whole .free) (i - log .count) (omega (arith, length-drop (log .count) (log .entries), o .rows)) in
+      zero-is (slot log i) (rw f at z)
