@@ -1,4 +1,3 @@
--- `midnight::say_entries` is safe and ends. The measure is the number of slots left. Assumes nothing.
 use borrow.Author.Needs.{needs}
 use native.Mathlib.Omega.{arith}
 use Prim.Native.Nat.{_≤_, _-_}
