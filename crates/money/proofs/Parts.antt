@@ -1,0 +1,99 @@
+-- A signed number as what it has above zero and below zero, both natural numbers, which `omega` reads.
+-- List `sum a b`, `diff a b`, `abs a` for `omega`; an order or an equation goes over by `from-le`, `from-lt`, `from-ge`, `to-le`, `to-eq`. Assumes nothing.
+use mathlib.Core.Path.{_≡_, refl, ap}
+use mathlib.Core.Bool.{Bool, true, false, cond}
+use Prim.Native.Nat.{ℕ, zero, suc, _+_, _-_, _≤_, _<_}
+use native.Mathlib.Omega.{arith}
+use lib.Dec.{ltb}
+use lib.IntN.{ℤ, pos, negsuc, negℤ, natAbs, _+ℤ_, _-ℤ_}
+use lib.Signed.{ltZ, leZ}
+use borrow.Author.Tests.{ltb-true, ltb-false, leb-true, le-leb}
+
+-- what a number has above zero
+unfoldable pub over : ℤ → ℕ
+over (pos n) = n
+over (negsuc n) = 0
+
+-- what it has below zero
+unfoldable pub under : ℤ → ℕ
+under (pos n) = 0
+under (negsuc n) = suc n
+
+-- ---- operations
+less-parts : (a b : ℕ) (t : Bool) → ltb a b ≡ t → over (cond t (negsuc (b - suc a)) (pos (a - b))) + b ≡ under (cond t (negsuc (b - suc a)) (pos (a - b))) + a
+unfolding over under
+less-parts a b true e = let h : a < b = ltb-true a b e in omega arith
+less-parts a b false e = let h : b ≤ a = ltb-false a b e in omega arith
+
+-- the parts of a sum
+pub sum : (a b : ℤ) → over (a +ℤ b) + (under a + under b) ≡ under (a +ℤ b) + (over a + over b)
+unfolding over under
+sum (pos a) (pos b) = omega arith
+sum (pos a) (negsuc b) = let h = less-parts a (suc b) (ltb a (suc b)) refl in omega arith
+sum (negsuc a) (pos b) = let h = less-parts b (suc a) (ltb b (suc a)) refl in omega arith
+sum (negsuc a) (negsuc b) = omega arith
+
+-- a number turned round has above zero what it had below
+pub neg-over : (a : ℤ) → over (negℤ a) ≡ under a
+unfolding over under
+neg-over (pos zero) = refl
+neg-over (pos (suc n)) = refl
+neg-over (negsuc n) = refl
+
+-- and below zero what it had above
+pub neg-under : (a : ℤ) → under (negℤ a) ≡ over a
+unfolding over under
+neg-under (pos zero) = refl
+neg-under (pos (suc n)) = refl
+neg-under (negsuc n) = refl
+
+-- the parts of a difference
+pub diff : (a b : ℤ) → over (a -ℤ b) + (under a + over b) ≡ under (a -ℤ b) + (over a + under b)
+diff a b = omega (arith, sum a (negℤ b), neg-over b, neg-under b)
+
+-- the magnitude by the parts
+pub abs : (a : ℤ) → natAbs a ≡ over a + under a
+unfolding over under
+abs (pos n) = omega arith
+abs (negsuc n) = omega arith
+
+-- ---- order and equality
+-- what `a` at most `b` says of the parts
+pub from-le : (a b : ℤ) → leZ a b ≡ true → over a + under b ≤ over b + under a
+unfolding over under
+from-le (pos a) (pos b) e = let h : a ≤ b = leb-true a b e in omega arith
+from-le (pos a) (negsuc b) e = let no : _≡_ {A = ℕ} 0 1 = cc in absurd (omega arith)
+from-le (negsuc a) (pos b) e = omega arith
+from-le (negsuc a) (negsuc b) e = let h : b ≤ a = leb-true b a e in omega arith
+
+-- and back
+pub to-le : (a b : ℤ) → over a + under b ≤ over b + under a → leZ a b ≡ true
+unfolding over under
+to-le (pos a) (pos b) h = le-leb a b (omega arith)
+to-le (pos a) (negsuc b) h = absurd (omega arith)
+to-le (negsuc a) (pos b) h = refl
+to-le (negsuc a) (negsuc b) h = le-leb b a (omega arith)
+
+-- what `a` below `b` says of the parts
+pub from-lt : (a b : ℤ) → ltZ a b ≡ true → over a + under b < over b + under a
+unfolding over under
+from-lt (pos a) (pos b) e = let h : a < b = ltb-true a b e in omega arith
+from-lt (pos a) (negsuc b) e = let no : _≡_ {A = ℕ} 0 1 = cc in absurd (omega arith)
+from-lt (negsuc a) (pos b) e = omega arith
+from-lt (negsuc a) (negsuc b) e = let h : b < a = ltb-true b a e in omega arith
+
+-- what `a` not below `b` says of the parts
+pub from-ge : (a b : ℤ) → ltZ a b ≡ false → over b + under a ≤ over a + under b
+unfolding over under
+from-ge (pos a) (pos b) e = let h : b ≤ a = ltb-false a b e in omega arith
+from-ge (pos a) (negsuc b) e = omega arith
+from-ge (negsuc a) (pos b) e = let no : _≡_ {A = ℕ} 0 1 = cc in absurd (omega arith)
+from-ge (negsuc a) (negsuc b) e = let h : a ≤ b = ltb-false b a e in omega arith
+
+-- two numbers with the same parts are one
+pub to-eq : (a b : ℤ) → over a + under b ≡ over b + under a → a ≡ b
+unfolding over under
+to-eq (pos a) (pos b) h = let e : a ≡ b = omega arith in ap pos e
+to-eq (pos a) (negsuc b) h = absurd (omega arith)
+to-eq (negsuc a) (pos b) h = absurd (omega arith)
+to-eq (negsuc a) (negsuc b) h = let e : a ≡ b = omega arith in ap negsuc e

@@ -1,0 +1,3 @@
+-- Signed whole pounds, and the rounding rule.
+pub mod Pounds
+pub mod Rounding

@@ -1,0 +1,12 @@
+-- Money is whole pounds, in the range of 64 bits: document 01, "The work".
+use Prim.Native.Nat.{ℕ, min}
+use lib.IntN.{ℤ, pos, negsuc}
+
+-- the most that fits 64 bits; the least is one further from zero
+abbrev pub mostPounds : ℕ
+mostPounds = 9223372036854775807
+
+-- held to what fits: the number itself, or the end of the range that it lies past
+abbrev pub heldZ : ℤ → ℤ
+heldZ (pos n) = pos (min n mostPounds)
+heldZ (negsuc n) = negsuc (min n mostPounds)

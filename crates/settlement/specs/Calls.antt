@@ -1,0 +1,86 @@
+-- What each call of settlement checks, in order, and what comes back.
+use mathlib.Core.Bool.{Bool, cond, not, _&&_}
+use mathlib.Core.List.{[], _∷_}
+use Prim.Native.Nat.{ℕ}
+use lib.Dec.{leb, ltb}
+use lib.IntN.{ℤ, pos, natAbs, _-ℤ_}
+use Rattle.refusals.specs.Refusals.{Rows, accepted, numberOf}
+use Rattle.refusals.specs.declared.Refusal.the-variants.{BadPeriod, TooLarge}
+use Rattle.settlement.specs.declared.medians.Period.{Period}
+use Rattle.settlement.specs.declared.medians.Gap.{Gap}
+use Rattle.settlement.specs.declared.medians.Gap.the-variants as gap
+use Rattle.settlement.specs.declared.table.Growth.{Growth}
+use Rattle.settlement.specs.declared.table.Growth.the-variants as growth
+use Rattle.settlement.specs.declared.paying.Payment.{Payment}
+use Rattle.settlement.specs.declared.paying.Payment.the-variants as payment
+use Rattle.settlement.specs.Gap.{goodPeriod, daySum, hundredths, goodHundredths}
+use Rattle.settlement.specs.Growth.{entries, growthOf, paidOf}
+
+-- ---- the gap of two periods
+abbrev pub sumsFigure : ℕ → ℕ → ℕ
+sumsFigure earlier later = cond (goodHundredths (hundredths earlier later)) (natAbs (hundredths earlier later)) 0
+
+abbrev pub gapHolds : Period → Period → Bool
+gapHolds earlier later = goodPeriod earlier && (goodPeriod later && goodHundredths (hundredths (daySum earlier) (daySum later)))
+
+abbrev pub gapRows : Period → Period → Rows
+gapRows earlier later = (BadPeriod, not (gapHolds earlier later)) ∷ []
+
+abbrev pub gapGiven : Period → Period → ℕ
+gapGiven earlier later = cond (accepted (gapRows earlier later)) (natAbs (hundredths (daySum earlier) (daySum later))) 0
+
+abbrev pub gapNumber : Gap → ℕ
+gapNumber (gap.Hundredths n) = 0
+gapNumber (gap.Refused why) = numberOf why
+
+abbrev pub gapFigure : Gap → ℕ
+gapFigure (gap.Hundredths n) = n
+gapFigure (gap.Refused why) = 0
+
+-- ---- growth at n
+abbrev pub growthRows : ℕ → Rows
+growthRows n = (BadPeriod, not (ltb n entries)) ∷ []
+
+abbrev pub growthGiven : ℕ → ℕ
+growthGiven n = cond (accepted (growthRows n)) (growthOf n) 0
+
+abbrev pub growthNumber : Growth → ℕ
+growthNumber (growth.Billionths e) = 0
+growthNumber (growth.Refused why) = numberOf why
+
+abbrev pub growthFigure : Growth → ℕ
+growthFigure (growth.Billionths e) = e
+growthFigure (growth.Refused why) = 0
+
+-- ---- a payment of an amount over n hundredths of a year
+abbrev pub tooLarge : ℤ → Bool
+tooLarge amount = not (leb (natAbs amount) 10000000000)
+
+abbrev pub payRows : ℤ → ℕ → Rows
+payRows amount n = (BadPeriod, not (ltb n entries)) ∷ (TooLarge, tooLarge amount) ∷ []
+
+abbrev pub payGiven : ℤ → ℕ → ℤ
+payGiven amount n = cond (accepted (payRows amount n)) (paidOf amount n) (pos 0)
+
+abbrev pub payNumber : Payment → ℕ
+payNumber (payment.Pounds z) = 0
+payNumber (payment.Refused why) = numberOf why
+
+abbrev pub payFigure : Payment → ℤ
+payFigure (payment.Pounds z) = z
+payFigure (payment.Refused why) = pos 0
+
+-- ---- equation 1: an adjustment measured over one period, paid in a later one
+abbrev pub settleRows : ℤ → Period → Period → Rows
+settleRows adjustment measured settled = (BadPeriod, not (gapHolds measured settled)) ∷ (TooLarge, tooLarge adjustment) ∷ []
+
+abbrev pub settleGiven : ℤ → Period → Period → ℤ
+settleGiven adjustment measured settled =
+    cond (accepted (settleRows adjustment measured settled)) (paidOf adjustment (natAbs (hundredths (daySum measured) (daySum settled)))) (pos 0)
+
+-- ---- equation 2: the final payment less the provisional one, over the later gap
+abbrev pub reconcileRows : ℤ → ℤ → Period → Period → Rows
+reconcileRows final provisional settled reconciled = settleRows (final -ℤ provisional) settled reconciled
+
+abbrev pub reconcileGiven : ℤ → ℤ → Period → Period → ℤ
+reconcileGiven final provisional settled reconciled = settleGiven (final -ℤ provisional) settled reconciled

@@ -1,0 +1,29 @@
+use mathlib.Core.Path.{_≡_, sym, ap, _∙_}
+use borrow.Author.Tests.{eq-eqb}
+use lib.Dec.{eqb}
+use lib.IntN.{natAbs}
+use Rattle.lists.proofs.Tests.{facts}
+use Rattle.money.proofs.Pounds.{wire}
+use Rattle.year.proofs.checking.is_zero_line.Statement.{statement}
+use Rattle.year.proofs.checking.is_zero_line.Tie as tie
+
+returns : tie.Need-returns
+returns c = search facts
+
+returns-2 : tie.Need-returns-2
+returns-2 c = search facts
+
+magnitude-requires : tie.Need-magnitude-requires
+magnitude-requires c κs = search facts
+
+returns-3 : tie.Need-returns-3
+returns-3 c =
+    rw (
+      eq-eqb _ _ (c .before .before .before .if1 .left),
+      eq-eqb _ _ (c .before .if2 .left),
+      c .magnitude .ensures,
+      wire _ (c .before .before .before .before .before .struct-told .given .1 .1 .0 .1),
+    )
+
+pub is-zero-line-spec : {M : Type 1} → statement M
+is-zero-line-spec = tie.close (tie.spec returns returns-2 magnitude-requires returns-3)

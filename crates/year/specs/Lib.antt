@@ -1,0 +1,2 @@
+-- The year record, its limits, its fresh value and its check.
+pub mod Year
