@@ -1,0 +1,3 @@
+-- Balances over the years, and the assessment.
+pub mod Balance
+pub mod Assessment

@@ -1,0 +1,240 @@
+// The assessment: four balances, revenue held between floor and cap, and the adjustment.
+use super::carrying::Balance;
+use super::carrying::balance_of;
+use money::below;
+use money::is_negative;
+use money::minus;
+use money::within;
+use refusals::Refusal;
+ghost use mathlib.Core.Path.{_≡_};
+ghost use Prim.Native.Nat.{_≤_};
+ghost use lib.IntN.{natAbs};
+ghost use Rattle.refusals.specs.Refusals.{lowest};
+ghost use Rattle.balances.specs.Balance.{goodAmounts, goodIndex, mostBalance};
+ghost use Rattle.balances.specs.Assessment.{
+  Bounded,
+  assessFigures,
+  assessGiven,
+  assessNumber,
+  assessRows,
+  figuresOf,
+  foundFigures,
+  foundRows,
+  goodYearly,
+  heldBetween,
+  isOver,
+  notNegative,
+  oneOver,
+  valueOf,
+};
+
+// What an assessment period's years bring: index, assessed revenue, cap and floor level, within-period adjustment.
+pub struct Yearly {
+    pub index: [u32; 5],
+    pub revenue: [i64; 5],
+    pub cap: [i64; 5],
+    pub floor: [i64; 5],
+    pub within: [i64; 5],
+}
+
+impl Yearly {
+    pub const LEAST_INDEX: u32 = 5_000;
+
+    pub const MOST_INDEX: u32 = 50_000;
+
+    // The most that a yearly amount has in magnitude.
+    pub const MOST_AMOUNT: u64 = 1_000_000_000;
+}
+
+// The four balances, revenue held between floor and cap, and the adjustment paid to the licensee.
+pub struct Figures {
+    pub revenue: i64,
+    pub cap: i64,
+    pub floor: i64,
+    pub within: i64,
+    pub held: i64,
+    pub adjustment: i64,
+}
+
+// The figures, or why there are none.
+pub enum Assessment {
+    Found(Figures),
+    Refused(Refusal),
+}
+
+fn good_index(i: u32) -> bool
+    ensures { λ r. ⌜ r ≡ goodIndex i ⌝ }
+{
+    Yearly::LEAST_INDEX <= i && i <= Yearly::MOST_INDEX
+}
+
+// The first n years' indices and amounts are in range.
+fn good_amounts(index: [u32; 5], amounts: [i64; 5], n: usize) -> bool
+    requires { ⌜ n ≤ 5 ⌝ }
+    ensures { λ r. ⌜ r ≡ goodAmounts index amounts n ⌝ }
+{
+    if n == 0 {
+        return true;
+    }
+    let i = index[n - 1];
+    let amount = amounts[n - 1];
+    if !good_index(i) {
+        return false;
+    }
+    if !within(amount, Yearly::MOST_AMOUNT) {
+        return false;
+    }
+    good_amounts(index, amounts, n - 1)
+}
+
+// None of the first n amounts is negative.
+fn not_negative(amounts: [i64; 5], n: usize) -> bool
+    requires { ⌜ n ≤ 5 ⌝ }
+    ensures { λ r. ⌜ r ≡ notNegative amounts n ⌝ }
+{
+    if n == 0 {
+        return true;
+    }
+    let amount = amounts[n - 1];
+    if is_negative(amount) {
+        return false;
+    }
+    not_negative(amounts, n - 1)
+}
+
+fn good_yearly(y: Yearly) -> bool
+    ensures { λ r. ⌜ r ≡ goodYearly y 5 ⌝ }
+{
+    let index = y.index;
+    let revenue = y.revenue;
+    let cap = y.cap;
+    let floor = y.floor;
+    let paid = y.within;
+    if !good_amounts(index, revenue, 5) {
+        return false;
+    }
+    if !good_amounts(index, cap, 5) {
+        return false;
+    }
+    if !not_negative(cap, 5) {
+        return false;
+    }
+    if !good_amounts(index, floor, 5) {
+        return false;
+    }
+    if !not_negative(floor, 5) {
+        return false;
+    }
+    good_amounts(index, paid, 5)
+}
+
+// T: revenue held between floor and cap.
+fn held_between(revenue: i64, floor: i64, cap: i64) -> i64
+    ensures { λ r. ⌜ r ≡ heldBetween revenue floor cap ⌝ }
+{
+    if below(revenue, floor) {
+        return floor;
+    }
+    if below(cap, revenue) {
+        return cap;
+    }
+    revenue
+}
+
+// The figures of four balances, each at most 10^10 in magnitude.
+fn figures_of(revenue: i64, cap: i64, floor: i64, paid: i64) -> Figures
+    requires { ⌜
+        (natAbs revenue ≤ mostBalance)
+        × (natAbs cap ≤ mostBalance)
+        × (natAbs floor ≤ mostBalance)
+        × (natAbs paid ≤ mostBalance)
+        ⌝ }
+    ensures { λ r. ⌜ r ≡ figuresOf revenue cap floor paid ⌝ }
+{
+    let held = held_between(revenue, floor, cap);
+    let adjustment = minus(minus(held, revenue), paid);
+    Figures {
+        revenue,
+        cap,
+        floor,
+        within: paid,
+        held,
+        adjustment,
+    }
+}
+
+fn is_over(b: Balance) -> bool
+    ensures { λ r. ⌜ r ≡ isOver b ⌝ }
+{
+    match b {
+        Balance::Is(_) => false,
+        Balance::Over => true,
+    }
+}
+
+// The balance, or 0 where there is none.
+fn value_of(b: Balance) -> i64
+    ensures { λ r. ⌜ r ≡ valueOf b ⌝ }
+{
+    match b {
+        Balance::Is(z) => z,
+        Balance::Over => 0,
+    }
+}
+
+fn one_over(revenue: Balance, cap: Balance, floor: Balance, paid: Balance) -> bool
+    ensures { λ r. ⌜ r ≡ oneOver revenue cap floor paid ⌝ }
+{
+    if is_over(revenue) {
+        return true;
+    }
+    if is_over(cap) {
+        return true;
+    }
+    if is_over(floor) {
+        return true;
+    }
+    is_over(paid)
+}
+
+// What four balances give: 11 where one is above its limit, then 10.
+fn found(revenue: Balance, cap: Balance, floor: Balance, paid: Balance) -> Assessment
+    requires { ⌜ Bounded revenue × Bounded cap × Bounded floor × Bounded paid ⌝ }
+    ensures { λ r. ⌜
+        (assessNumber r ≡ lowest (foundRows revenue cap floor paid)) × (assessFigures r ≡ foundFigures revenue cap floor paid)
+        ⌝ }
+{
+    let over = one_over(revenue, cap, floor, paid);
+    let a = value_of(revenue);
+    let c = value_of(cap);
+    let f = value_of(floor);
+    let w = value_of(paid);
+    let crossed = below(c, f);
+    if over {
+        return Assessment::Refused(Refusal::TooLarge);
+    }
+    if crossed {
+        return Assessment::Refused(Refusal::FloorAboveCap);
+    }
+    Assessment::Found(figures_of(a, c, f, w))
+}
+
+// The assessment of five years' amounts.
+pub fn assess(y: Yearly) -> Assessment
+    ensures { λ r. ⌜ (assessNumber r ≡ lowest (assessRows y)) × (assessFigures r ≡ assessGiven y) ⌝ }
+{
+    if !good_yearly(y) {
+        return Assessment::Refused(Refusal::BadYear);
+    }
+    let index = y.index;
+    let revenue = y.revenue;
+    let cap = y.cap;
+    let floor = y.floor;
+    let paid = y.within;
+    found(
+        balance_of(index, revenue, 5),
+        balance_of(index, cap, 5),
+        balance_of(index, floor, 5),
+        balance_of(index, paid, 5),
+    )
+}

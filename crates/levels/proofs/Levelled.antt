@@ -1,0 +1,108 @@
+-- What the levels of a year come to, from what the calls made on the way answer. Assumes nothing.
+use mathlib.Core.Path.{_≡_, refl, sym, ap, _∙_}
+use mathlib.Core.Bool.{Bool, true, false, cond, not, _&&_}
+use mathlib.Core.List.{[], _∷_}
+use Prim.Native.Nat.{ℕ, _<_}
+use native.Mathlib.Omega.{arith}
+use borrow.Author.Tests.{eq-eqb}
+use lib.Dec.{eqb}
+use lib.IntN.{ℤ, pos}
+use Rattle.lists.proofs.Tests.{and-left, not-no}
+use Rattle.refusals.specs.declared.Refusal.{Refusal}
+use Rattle.refusals.specs.declared.Refusal.the-variants.{BadBook, BrokenLog, BadYear, TooLarge}
+use Rattle.refusals.specs.declared.Answer.{Answer}
+use Rattle.refusals.specs.declared.Answer.the-variants as answer
+use Rattle.refusals.specs.Refusals.{lowest, accepted, numberOf, answerNumber}
+use Rattle.refusals.proofs.Laws.{all-clear, done-clear, never-zero, refused-not}
+use Rattle.calendar.specs.Years.{goodYear}
+use Rattle.outage.specs.declared.Log.{Log}
+use Rattle.outage.specs.Log.{validLog}
+use Rattle.year.specs.declared.Year.{Year}
+use Rattle.year.specs.Year.{goodYearRecord, yearRows}
+use Rattle.year.proofs.Only.{CheckGives}
+use Rattle.levels.specs.declared.Book.{Book}
+use Rattle.levels.specs.declared.measuring.Target.{Target}
+use Rattle.levels.specs.declared.measuring.Target.the-variants as target
+use Rattle.levels.specs.declared.levelling.Levels.the-variants as levels
+use Rattle.levels.specs.Book.{bookHolds, goodBook}
+use Rattle.levels.specs.Availability.{meetsTarget, availabilityRows, targetNumber, targetMet}
+use Rattle.levels.specs.Levels.{aifOf, capLevel, floorLevel, floorOf, levelFits, levelsRows}
+use Rattle.levels.proofs.Ranges.{year-says}
+use Rattle.levels.proofs.Only.{TargetGives, LevelsGives}
+
+-- a row that stops the target stops the levels, with the same number: a bad number makes a bad year
+same-stop : (b v n y t : Bool) → (y ≡ true → n ≡ true)
+    → 0 < lowest ((BadBook, not b) ∷ (BrokenLog, not v) ∷ (BadYear, not n) ∷ [])
+    → lowest ((BadBook, not b) ∷ (BrokenLog, not v) ∷ (BadYear, not n) ∷ [])
+    ≡ lowest ((BadBook, not b) ∷ (BrokenLog, not v) ∷ (BadYear, not y) ∷ (TooLarge, t) ∷ [])
+same-stop false v n y t f h = refl
+same-stop true false n y t f h = refl
+same-stop true true false false t f h = refl
+same-stop true true false true t f h = let e = f refl in let z : _≡_ {A = ℕ} 0 1 = cc in absurd (omega arith)
+same-stop true true true y t f h = absurd (omega arith)
+
+module _ (book : Book) (y : Year) (log : Log) where
+  -- a refusal's number says that nothing is given
+  gives-none : (why : Refusal) → numberOf why ≡ lowest (levelsRows book y log) → LevelsGives book y log (levels.Refused why)
+  gives-none why n =
+      let none : accepted (levelsRows book y log) ≡ false = refused-not (answer.Refused why) (levelsRows book y log) why n refl in
+      (n, ap (λ (b : Bool). cond b (capLevel book y) (pos 0)) (sym none), ap (λ (b : Bool). cond b (floorOf book y log) (pos 0)) (sym none))
+
+  -- the target is refused
+  pub gives-no-target : (why : Refusal) → TargetGives book log (y .number) (target.Refused why) → LevelsGives book y log (levels.Refused why)
+  gives-no-target why g =
+      let b = bookHolds book (log .«regime_end») in
+      let n = goodYear (y .number) in
+      let t = not (levelFits (capLevel book y) && levelFits (floorOf book y log)) in
+      gives-none why
+      (g .0 ∙ same-stop b (validLog log) n (goodYearRecord y) t (λ e. year-says y e .number) (omega (arith, never-zero why)))
+
+-- ---- the target is told, and what the check of the year answers
+module _ (book : Book) (y : Year) (log : Log) (t : Target) (g : TargetGives book log (y .number) t) (z : targetNumber t ≡ 0) where
+  rows-clear : lowest (availabilityRows book log (y .number)) ≡ 0
+  rows-clear = sym (g .0) ∙ z
+
+  pub held : bookHolds book (log .«regime_end») ≡ true
+  held = not-no (bookHolds book (log .«regime_end»)) (all-clear (availabilityRows book log (y .number)) rows-clear .0)
+
+  pub valid : validLog log ≡ true
+  valid = not-no (validLog log) (all-clear (availabilityRows book log (y .number)) rows-clear .1 .0)
+
+  pub good : goodBook book ≡ true
+  good = and-left (goodBook book) (eqb (book .«regime_end») (log .«regime_end»)) held
+
+  pub met-is : targetMet t ≡ meetsTarget book log (y .number)
+  met-is =
+      g .1 ∙ ap (λ (b : Bool). cond b (meetsTarget book log (y .number)) false) (eq-eqb (lowest (availabilityRows book log (y .number))) 0 rows-clear)
+
+  -- the year is refused
+  pub gives-no-year : (a : Answer) (why : Refusal) → CheckGives y a → a ≡ answer.Refused why → LevelsGives book y log (levels.Refused why)
+  gives-no-year a why c e = by (goodYearRecord y) refl (sym (ap answerNumber e) ∙ c)
+    where
+      by : (b : Bool) → goodYearRecord y ≡ b → numberOf why ≡ cond (not b) 9 0 → LevelsGives book y log (levels.Refused why)
+      by true k n = absurd (omega (arith, never-zero why))
+      by false k n = gives-none book y log why (n ∙ simp (held, valid, k))
+
+  -- the year is good
+  pub year-good : (a : Answer) → CheckGives y a → a ≡ answer.Done → goodYearRecord y ≡ true
+  year-good a c e = not-no (goodYearRecord y) (all-clear (yearRows y) (done-clear a (yearRows y) c e) .0)
+
+  -- ---- the levels, and whether they fit
+  module _ (k : goodYearRecord y ≡ true) where
+    pub gives-large-cap : levelFits (capLevel book y) ≡ false → LevelsGives book y log (levels.Refused TooLarge)
+    gives-large-cap h = gives-none book y log TooLarge (simp (held, valid, k, h))
+
+    floor-is : (floor : ℤ) → floor ≡ floorLevel book y (aifOf (targetMet t) (y .exceptional) (book .«miss_factor»)) → floor ≡ floorOf book y log
+    floor-is floor e = e ∙ ap (λ (m : Bool). floorLevel book y (aifOf m (y .exceptional) (book .«miss_factor»))) met-is
+
+    -- the floor as the code finds it
+    module _ (floor : ℤ) (e : floor ≡ floorLevel book y (aifOf (targetMet t) (y .exceptional) (book .«miss_factor»))) where
+      pub gives-large-floor : levelFits (capLevel book y) ≡ true → levelFits floor ≡ false → LevelsGives book y log (levels.Refused TooLarge)
+      gives-large-floor h l =
+          let m : levelFits (floorOf book y log) ≡ false = ap levelFits (sym (floor-is floor e)) ∙ l in
+          gives-none book y log TooLarge (simp (held, valid, k, h, m))
+
+      pub gives-levels : (cap : ℤ) → cap ≡ capLevel book y → levelFits (capLevel book y) ≡ true → levelFits floor ≡ true → LevelsGives book y log (levels.Pounds cap floor)
+      gives-levels cap f h l =
+          let m : levelFits (floorOf book y log) ≡ true = ap levelFits (sym (floor-is floor e)) ∙ l in
+          simp (held, valid, k, h, m) (refl, f, floor-is floor e)

@@ -1,0 +1,39 @@
+use mathlib.Core.Path.{_≡_, ap, _∙_}
+use native.Mathlib.Omega.{arith}
+use lib.IntN.{ℤ}
+use Rattle.money.proofs.Pounds.{wire}
+use Rattle.levels.specs.Book.{capSum}
+use Rattle.levels.specs.Levels.{levelOf}
+use Rattle.levels.proofs.Ranges.{wire-small, book-says, year-says}
+use Rattle.levels.proofs.levelling.cap_of.Statement.{statement}
+use Rattle.levels.proofs.levelling.cap_of.Tie as tie
+
+sum : (c : tie.After-sum-of) → c .sum-of .result ≡ capSum (c .before .before .before .before .args .book)
+sum c =
+    let s = c .before .before .before .before in
+    let b = s .args .book in
+    let h = book-says b (s .pre .0) .cap in
+    rw (wire-small (b .pcl) (h .level), wire-small (b .pcac) (h .built), wire-small (b .orac) (h .run)) at (c .sum-of .ensures)
+
+sum-of-requires : tie.Need-sum-of-requires
+sum-of-requires c κs =
+    let s = c .before .before .before in
+    let b = s .args .book in
+    let h = book-says b (s .pre .0) .cap in
+    rw (wire-small (b .pcl) (h .level), wire-small (b .pcac) (h .built), wire-small (b .orac) (h .run)) (h .level, h .built, h .run)
+
+level-requires : tie.Need-level-requires
+level-requires c κs =
+    let s = c .before .before .before .before in
+    let y = year-says (s .args .y) (s .pre .1) in
+    rw (wire (c .sum-of .result) (c .sum-of .ok), sum c) (omega arith, book-says (s .args .book) (s .pre .0) .cap .all, omega arith, omega arith)
+
+returns : tie.Need-returns
+returns c =
+    let y = c .before .before .before .before .before .args .y in
+    wire (c .level .result) (c .level .ok)
+    ∙ rw (wire (c .before .sum-of .result) (c .before .sum-of .ok)) at (c .level .ensures)
+    ∙ ap (λ (z : ℤ). levelOf (y .pyc) z (y .aic) (y .pppi)) (sum (c .before))
+
+pub cap-of-spec : {M : Type 1} → statement M
+cap-of-spec = tie.close (tie.spec sum-of-requires level-requires returns)

@@ -1,0 +1,149 @@
+use mathlib.Core.Path.{_≡_, refl, sym, ap, subst, _∙_}
+use mathlib.Core.Bool.{true}
+use mathlib.Core.Logic.{_⊎_, inl, inr}
+use native.Mathlib.Omega.{arith}
+use borrow.Author.Needs.{needs}
+use borrow.Author.Tests.{not-true, not-false}
+use denote.Enum.Declared.{tagOf}
+use Rattle.money.proofs.Pounds.{wire}
+use Rattle.year.specs.Year.{goodYearRecord}
+use Rattle.levels.specs.declared.measuring.Target.{Target}
+use Rattle.levels.specs.declared.measuring.Target.the-variants.{Met, Missed, Refused}
+use Rattle.levels.specs.Availability.{targetNumber, targetMet}
+use Rattle.levels.specs.Levels.{aifOf, capLevel, floorLevel, levelFits}
+use Rattle.levels.proofs.Only.{TargetGives}
+use Rattle.levels.proofs.Levelled.{gives-no-target, gives-no-year, good, year-good, gives-large-cap, gives-large-floor, gives-levels}
+use Rattle.levels.proofs.measuring.Target.{the-type}
+use Rattle.levels.proofs.levelling.levels_of.Statement.{statement}
+use Rattle.levels.proofs.levelling.levels_of.Tie as tie
+
+-- ---- what each call showed
+-- a target that is not refused
+told : (t : Target) → (tagOf the-type t ≡ 0) ⊎ (tagOf the-type t ≡ 1) → targetNumber t ≡ 0
+told Met h = refl
+told Missed h = refl
+told (Refused why) (inl e) = absurd (omega arith)
+told (Refused why) (inr e) = absurd (omega arith)
+
+clear : (c : tie.At-match-keys2) → targetNumber (c .before .check-target .result) ≡ 0
+clear c = told (c .before .check-target .result) (c .match .keys2)
+
+in-range : (c : tie.After-enum-told) → goodYearRecord (c .before .before .before .before .before .args .y) ≡ true
+in-range c =
+    let k = c .before .before .before in
+    let a = k .before .before .args in
+    year-good (a .book) (a .y) (a .log) (k .before .check-target .result) (k .before .check-target .ensures) (clear k)
+    (c .before .before .check-year .result) (c .before .before .check-year .ensures) (c .enum-told .given .1)
+
+fits : (c : tie.After-within) → (let a = c .before .before .before .before .before .before .before .before .before .args in levelFits (capLevel (a .book) (a .y))) ≡ c .within .result
+fits c =
+    let p = c .before .before .before in
+    sym (c .within .ensures ∙ ap levelFits (wire (p .cap-of .result) (p .cap-of .ok) ∙ p .cap-of .ensures))
+
+floor : (c : tie.After-floor-of) → (let a = c .before .before .before .before .before .before .before .before .args in c .floor-of .result ≡ floorLevel (a .book) (a .y) (aifOf (targetMet (c .before .before .before .before .before .before .before .check-target .result)) (a .y .exceptional) (a .book .«miss_factor»)))
+floor c = rw (c .before .is-met .ensures) at (c .floor-of .ensures)
+
+floor-fits : (c : tie.After-within2) → levelFits (c .before .before .before .floor-of .result) ≡ c .within2 .result
+floor-fits c = let f = c .before .before .before in sym (c .within2 .ensures ∙ ap levelFits (wire (f .floor-of .result) (f .floor-of .ok)))
+
+-- ---- the needs
+check-target-requires : tie.Need-check-target-requires
+check-target-requires c κs = search needs
+
+enum-known-target : tie.Need-enum-known-target
+enum-known-target c = search needs
+
+returns : tie.Need-returns
+returns c =
+    let s = c .before .before .before in
+    let a = s .before .args in
+    gives-no-target (a .book) (a .y) (a .log) (c .before .target .given .0 .0)
+    (subst (TargetGives (a .book) (a .log) (a .y .number)) (c .before .target .given .1) (s .check-target .ensures))
+
+check-year-requires : tie.Need-check-year-requires
+check-year-requires c κs = search needs
+
+enum-known-answer : tie.Need-enum-known-answer
+enum-known-answer c = search needs
+
+returns-2 : tie.Need-returns-2
+returns-2 c =
+    let d = c .before .before .before in
+    let k = d .before in
+    let a = k .before .before .args in
+    gives-no-year (a .book) (a .y) (a .log) (k .before .check-target .result) (k .before .check-target .ensures) (clear k)
+    (d .check-year .result) (c .before .answer .given .0 .0) (d .check-year .ensures) (c .before .answer .given .1)
+
+enum-told : tie.Need-enum-told
+enum-told c = search needs
+
+cap-of-requires : tie.Need-cap-of-requires
+cap-of-requires c κs =
+    let k = c .before .before .before in
+    let a = k .before .before .args in
+    (good (a .book) (a .y) (a .log) (k .before .check-target .result) (k .before .check-target .ensures) (clear k), in-range c)
+
+is-met-requires : tie.Need-is-met-requires
+is-met-requires c κs = search needs
+
+floor-of-requires : tie.Need-floor-of-requires
+floor-of-requires c κs =
+    let e = c .before .before in
+    let k = e .before .before .before in
+    let a = k .before .before .args in
+    (good (a .book) (a .y) (a .log) (k .before .check-target .result) (k .before .check-target .ensures) (clear k), in-range e)
+
+within-requires : tie.Need-within-requires
+within-requires c κs = search needs
+
+returns-3 : tie.Need-returns-3
+returns-3 c =
+    let e = c .before .before .before .before .before in
+    let k = e .before .before .before in
+    let a = k .before .before .args in
+    gives-large-cap (a .book) (a .y) (a .log) (k .before .check-target .result) (k .before .check-target .ensures) (clear k) (in-range e)
+    (fits (c .before) ∙ not-true _ (c .if1 .taken))
+
+within-requires-2 : tie.Need-within-requires-2
+within-requires-2 c κs = search needs
+
+returns-4 : tie.Need-returns-4
+returns-4 c =
+    let l = c .before .before in
+    let f = l .before .before in
+    let e = f .before .before .before in
+    let k = e .before .before .before in
+    let a = k .before .before .args in
+    gives-large-floor (a .book) (a .y) (a .log) (k .before .check-target .result) (k .before .check-target .ensures) (clear k) (in-range e)
+    (f .floor-of .result) (floor f) (fits (l .before) ∙ not-false _ (l .if1 .left)) (floor-fits (c .before) ∙ not-true _ (c .if2 .taken))
+
+returns-5 : tie.Need-returns-5
+returns-5 c =
+    let l = c .before .before in
+    let f = l .before .before in
+    let p = f .before .before in
+    let e = p .before in
+    let k = e .before .before .before in
+    let a = k .before .before .args in
+    let g = gives-levels (a .book) (a .y) (a .log) (k .before .check-target .result) (k .before .check-target .ensures) (clear k) (in-range e) (f .floor-of .result) (floor f) (p .cap-of .result) (p .cap-of .ensures) (fits (l .before) ∙ not-false _ (l .if1 .left)) (floor-fits (c .before) ∙ not-false _ (c .if2 .left)) in
+    (g .0, wire (p .cap-of .result) (p .cap-of .ok) ∙ g .1, wire (f .floor-of .result) (f .floor-of .ok) ∙ g .2)
+
+pub levels-of-spec : {M : Type 1} → statement M
+levels-of-spec =
+    tie.close
+    (tie.spec
+    check-target-requires
+    enum-known-target
+    returns
+    check-year-requires
+    enum-known-answer
+    returns-2
+    enum-told
+    cap-of-requires
+    is-met-requires
+    floor-of-requires
+    within-requires
+    returns-3
+    within-requires-2
+    returns-4
+    returns-5)

@@ -1,0 +1,55 @@
+-- Availability and its target: document 000, SC4 12, 16 and 18; document 01, "The log".
+use mathlib.Core.Bool.{Bool, true, false, cond, not}
+use mathlib.Core.List.{[], _∷_}
+use Prim.Native.Nat.{ℕ, _-_, _*_}
+use lib.Dec.{leb}
+use Rattle.refusals.specs.Refusals.{Rows, accepted, numberOf}
+use Rattle.refusals.specs.declared.Refusal.the-variants.{BadBook, BrokenLog, BadYear}
+use Rattle.calendar.specs.Years.{yearStart, yearEnd, goodYear}
+use Rattle.outage.specs.declared.Log.{Log}
+use Rattle.outage.specs.Log.{validLog, live, lostEnergy, mostMw}
+use Rattle.levels.specs.declared.Book.{Book}
+use Rattle.levels.specs.declared.measuring.Availability.{Availability}
+use Rattle.levels.specs.declared.measuring.Availability.the-variants as availability
+use Rattle.levels.specs.declared.measuring.Target.{Target}
+use Rattle.levels.specs.declared.measuring.Target.the-variants as target
+use Rattle.levels.specs.Book.{bookHolds, targetOf}
+
+-- "Availability of a year is 1,000 times its minutes less its lost energy." (SC4 18)
+abbrev pub availabilityIn : Log → ℕ → ℕ
+availabilityIn log number =
+    mostMw * (yearEnd number (log .«regime_end») - yearStart number) - lostEnergy (yearStart number) (yearEnd number (log .«regime_end»)) (live log)
+
+-- "The target ... times 60 for comparison; equality meets it." (SC4 16)
+abbrev pub meetsTarget : Book → Log → ℕ → Bool
+meetsTarget book log number = leb (60 * targetOf book number) (availabilityIn log number)
+
+-- ---- the calls
+abbrev pub availabilityRows : Book → Log → ℕ → Rows
+availabilityRows book log number =
+    (BadBook, not (bookHolds book (log .«regime_end»))) ∷ (BrokenLog, not (validLog log)) ∷ (BadYear, not (goodYear number)) ∷ []
+
+abbrev pub availabilityGiven : Book → Log → ℕ → ℕ
+availabilityGiven book log number = cond (accepted (availabilityRows book log number)) (availabilityIn log number) 0
+
+abbrev pub availabilityNumber : Availability → ℕ
+availabilityNumber (availability.MwMinutes x) = 0
+availabilityNumber (availability.Refused why) = numberOf why
+
+abbrev pub availabilityFigure : Availability → ℕ
+availabilityFigure (availability.MwMinutes x) = x
+availabilityFigure (availability.Refused why) = 0
+
+-- beside a refusal the target is not met
+abbrev pub targetGiven : Book → Log → ℕ → Bool
+targetGiven book log number = cond (accepted (availabilityRows book log number)) (meetsTarget book log number) false
+
+abbrev pub targetNumber : Target → ℕ
+targetNumber target.Met = 0
+targetNumber target.Missed = 0
+targetNumber (target.Refused why) = numberOf why
+
+abbrev pub targetMet : Target → Bool
+targetMet target.Met = true
+targetMet target.Missed = false
+targetMet (target.Refused why) = false

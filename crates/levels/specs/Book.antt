@@ -1,0 +1,65 @@
+-- Document 01, "Years and the licence book": what the book holds.
+use mathlib.Core.Bool.{Bool, cond, _&&_}
+use Prim.Native.Nat.{ℕ}
+use lib.Dec.{leb, eqb}
+use lib.IntN.{ℤ, pos, natAbs, _+ℤ_}
+use lib.Signed.{nonNeg}
+use Rattle.calendar.specs.Years.{lastYear}
+use Rattle.outage.specs.Log.{goodRegimeEnd, lastRegimeEnd}
+use Rattle.levels.specs.declared.Book.{Book}
+
+-- "The fresh book has the published levels, regime end 13,632,480 and 0 elsewhere."
+abbrev pub publishedBook : Book
+publishedBook = record {
+  «regime_end» = lastRegimeEnd;
+  «first_target» = 0;
+  «last_target» = 0;
+  pcl = pos 83806402;
+  pfl = pos 48807317;
+  pcac = pos 0;
+  pcaf = pos 0;
+  orac = pos 0;
+  oraf = pos 0;
+  «miss_factor» = 0;
+}
+
+-- ---- the ranges
+-- "targets for years 1 and 25, MWh: 0 to 20,000,000 each"
+abbrev pub goodTarget : ℕ → Bool
+goodTarget target = leb target 20000000
+
+abbrev pub small : ℤ → Bool
+small z = leb (natAbs z) 1000000000
+
+-- "preliminary cap and floor: 0 to 10^9", "adjustments: -10^9 to 10^9; each sum with its preliminary level 0 to 10^9"
+abbrev pub goodSum : ℤ → ℤ → ℤ → Bool
+goodSum preliminary construction opex =
+    (nonNeg preliminary && small preliminary)
+    && (small construction
+    && (small opex && (nonNeg (preliminary +ℤ construction +ℤ opex) && small (preliminary +ℤ construction +ℤ opex))))
+
+-- "floor factor on a miss: 0 to 10,000"
+abbrev pub goodFactor : ℕ → Bool
+goodFactor factor = leb factor 10000
+
+unfoldable pub goodBook : Book → Bool
+goodBook b =
+    goodRegimeEnd (b .«regime_end»)
+    && (goodTarget (b .«first_target»)
+    && (goodTarget (b .«last_target»)
+    && (goodFactor (b .«miss_factor») && (goodSum (b .pcl) (b .pcac) (b .orac) && goodSum (b .pfl) (b .pcaf) (b .oraf)))))
+
+-- "a book entry out of range; book and log with different regime ends"
+abbrev pub bookHolds : Book → ℕ → Bool
+bookHolds b regimeEnd = goodBook b && eqb (b .«regime_end») regimeEnd
+
+-- ---- SC2 4: PCL + PCAC + ORAC, and PFL + PCAF + ORAF
+abbrev pub capSum : Book → ℤ
+capSum b = b .pcl +ℤ b .pcac +ℤ b .orac
+
+abbrev pub floorSum : Book → ℤ
+floorSum b = b .pfl +ℤ b .pcaf +ℤ b .oraf
+
+-- ---- SC4 12 and Part F: "The target is 7,012,800 MWh in years 2 to 24", of years 1 and 25 as entered
+abbrev pub targetOf : Book → ℕ → ℕ
+targetOf b number = cond (eqb number 1) (b .«first_target») (cond (eqb number lastYear) (b .«last_target») 7012800)

@@ -1,0 +1,71 @@
+-- Cap and floor levels: document 000, SC2 4; document 01, "Levels and revenue".
+use mathlib.Core.Bool.{Bool, cond, not, _&&_, _||_}
+use mathlib.Core.List.{[], _∷_}
+use Prim.Native.Nat.{ℕ}
+use lib.Dec.{leb}
+use lib.IntN.{ℤ, pos, natAbs, _*ℤ_}
+use Rattle.refusals.specs.Refusals.{Rows, accepted, numberOf}
+use Rattle.refusals.specs.declared.Refusal.the-variants.{BadBook, BrokenLog, BadYear, TooLarge}
+use Rattle.money.specs.Rounding.{roundZ}
+use Rattle.outage.specs.declared.Log.{Log}
+use Rattle.outage.specs.Log.{validLog}
+use Rattle.year.specs.declared.Year.{Year}
+use Rattle.year.specs.Year.{goodYearRecord}
+use Rattle.levels.specs.declared.Book.{Book}
+use Rattle.levels.specs.declared.levelling.Levels.{Levels}
+use Rattle.levels.specs.declared.levelling.Levels.the-variants.{Pounds, Refused}
+use Rattle.levels.specs.Book.{bookHolds, capSum, floorSum}
+use Rattle.levels.specs.Availability.{meetsTarget}
+
+-- a factor in ten-thousandths times an amount, rounded
+unfoldable pub timesOf : ℤ → ℕ → ℤ
+timesOf amount factor = roundZ (amount *ℤ pos factor) 10000
+
+-- "Rounded after each of three products, in that order of factors."
+unfoldable pub levelOf : ℕ → ℤ → ℕ → ℕ → ℤ
+levelOf partial sum incentive pppi = timesOf (timesOf (timesOf sum partial) incentive) pppi
+
+-- "AIF is 10,000 where the target is met or an Exceptional Event is marked, else the book's factor." (SC4 16)
+abbrev pub aifOf : Bool → Bool → ℕ → ℕ
+aifOf met exceptional missFactor = cond (met || exceptional) 10000 missFactor
+
+-- SC2 4(a): cap = PYC x (PCL + PCAC + ORAC) x AIC x PPPI
+abbrev pub capLevel : Book → Year → ℤ
+capLevel book y = levelOf (y .pyc) (capSum book) (y .aic) (y .pppi)
+
+-- SC2 4(b): floor = PYF x (PFL + PCAF + ORAF) x AIF x PPPI
+abbrev pub floorLevel : Book → Year → ℕ → ℤ
+floorLevel book y aif = levelOf (y .pyf) (floorSum book) aif (y .pppi)
+
+abbrev pub floorOf : Book → Year → Log → ℤ
+floorOf book y log = floorLevel book y (aifOf (meetsTarget book log (y .number)) (y .exceptional) (book .«miss_factor»))
+
+-- ---- the call: "a level above 10^9"
+abbrev pub levelFits : ℤ → Bool
+levelFits z = leb (natAbs z) 1000000000
+
+abbrev pub levelsRows : Book → Year → Log → Rows
+levelsRows book y log =
+    (BadBook, not (bookHolds book (log .«regime_end»)))
+    ∷ (BrokenLog, not (validLog log))
+    ∷ (BadYear, not (goodYearRecord y))
+    ∷ (TooLarge, not (levelFits (capLevel book y) && levelFits (floorOf book y log)))
+    ∷ []
+
+abbrev pub capGiven : Book → Year → Log → ℤ
+capGiven book y log = cond (accepted (levelsRows book y log)) (capLevel book y) (pos 0)
+
+abbrev pub floorGiven : Book → Year → Log → ℤ
+floorGiven book y log = cond (accepted (levelsRows book y log)) (floorOf book y log) (pos 0)
+
+abbrev pub levelsNumber : Levels → ℕ
+levelsNumber (Pounds cap floor) = 0
+levelsNumber (Refused why) = numberOf why
+
+abbrev pub capFigure : Levels → ℤ
+capFigure (Pounds cap floor) = cap
+capFigure (Refused why) = pos 0
+
+abbrev pub floorFigure : Levels → ℤ
+floorFigure (Pounds cap floor) = floor
+floorFigure (Refused why) = pos 0

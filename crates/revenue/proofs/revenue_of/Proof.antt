@@ -1,0 +1,75 @@
+use mathlib.Core.Path.{_≡_, sym, ap, _∙_}
+use mathlib.Core.Bool.{true}
+use borrow.Author.Needs.{needs}
+use borrow.Author.Tests.{not-true, not-false}
+use lib.Dec.{leb}
+use lib.IntN.{natAbs}
+use mir.Syntax.{w64}
+use mir.Val.{toZ, ofZ}
+use Rattle.money.proofs.Pounds.{wire}
+use Rattle.refusals.specs.Refusals.{answerNumber}
+use Rattle.refusals.proofs.Laws.{done-clear}
+use Rattle.year.specs.Year.{goodYearRecord, yearRows}
+use Rattle.revenue.specs.Revenue.{assessedRevenue}
+use Rattle.revenue.proofs.Answers.{gives-bad, gives-large, gives-pounds, year-good, lines-good, rate-good}
+use Rattle.revenue.proofs.revenue_of.Statement.{statement}
+use Rattle.revenue.proofs.revenue_of.Tie as tie
+
+-- the year is good
+good : (c : tie.After-enum-told) → goodYearRecord (c .before .before .before .args .y) ≡ true
+good c =
+    let y = c .before .before .before .args .y in
+    year-good y (done-clear (c .before .before .check-year .result) (yearRows y) (c .before .before .check-year .ensures) (c .enum-told .given .1))
+
+-- the total, as it is read back, and whether it is within the limit
+sum : (c : tie.After-total) → toZ w64 (ofZ w64 (c .total .result)) ≡ assessedRevenue (c .before .before .before .before .before .args .y)
+sum c = wire (c .total .result) (c .total .ok) ∙ c .total .ensures
+
+within : (c : tie.After-within) → leb (natAbs (assessedRevenue (c .before .before .before .before .before .before .args .y))) 1000000000 ≡ c .within .result
+within c = sym (rw (sum (c .before)) at (c .within .ensures))
+
+check-year-requires : tie.Need-check-year-requires
+check-year-requires c κs = search needs
+
+enum-known-answer : tie.Need-enum-known-answer
+enum-known-answer c = search needs
+
+returns : tie.Need-returns
+returns c =
+    let a = c .before .before .before in
+    gives-bad (a .before .args .y) (c .before .answer .given .0 .0) (sym (ap answerNumber (c .before .answer .given .1)) ∙ a .check-year .ensures)
+
+enum-told : tie.Need-enum-told
+enum-told c = search needs
+
+total-requires : tie.Need-total-requires
+total-requires c κs =
+    let g = good (c .before) in
+    let y = c .before .before .before .before .args .y in
+    (lines-good y g, rate-good y g)
+
+within-requires : tie.Need-within-requires
+within-requires c κs = search needs
+
+returns-2 : tie.Need-returns-2
+returns-2 c =
+    let t = c .before .before .before .before in
+    gives-large (t .before .before .before .args .y) (good t) (within (c .before) ∙ not-true _ (c .if1 .taken))
+
+returns-3 : tie.Need-returns-3
+returns-3 c =
+    let t = c .before .before .before .before in
+    gives-pounds (t .before .before .before .args .y) (sum (c .before .before)) (good t) (within (c .before) ∙ not-false _ (c .if1 .left))
+
+pub revenue-of-spec : {M : Type 1} → statement M
+revenue-of-spec =
+    tie.close
+    (tie.spec
+    check-year-requires
+    enum-known-answer
+    returns
+    enum-told
+    total-requires
+    within-requires
+    returns-2
+    returns-3)

@@ -1,0 +1,2 @@
+-- Assessed revenue.
+pub mod Revenue
