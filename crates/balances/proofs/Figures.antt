@@ -17,8 +17,8 @@ abbrev five : {A : Type 0} → A → List A
 five a = a ∷ a ∷ a ∷ a ∷ a ∷ []
 
 -- five years at index 10,000, with a within-period adjustment of -100,000 in year two
-abbrev marked : Yearly
-marked = record {
+abbrev pub fiveYears : Yearly
+fiveYears = record {
   index = five 10000;
   revenue = five (pos 1000000);
   cap = five (pos 900000);
@@ -26,6 +26,6 @@ marked = record {
   within = pos 0 ∷ negℤ (pos 100000) ∷ pos 0 ∷ pos 0 ∷ pos 0 ∷ [];
 }
 
-pub figures : assessGiven marked .revenue ∷ assessGiven marked .cap ∷ assessGiven marked .within ∷ assessGiven marked .adjustment ∷ [] ≡ pos 5403349 ∷ pos 4863014 ∷ negℤ (pos 112098) ∷ negℤ (pos 428237) ∷ []
+pub figures : assessGiven fiveYears .revenue ∷ assessGiven fiveYears .cap ∷ assessGiven fiveYears .within ∷ assessGiven fiveYears .adjustment ∷ [] ≡ pos 5403349 ∷ pos 4863014 ∷ negℤ (pos 112098) ∷ negℤ (pos 428237) ∷ []
 unfolding upOf roundDiv onMagnitude roundZ carryOf balanceAfter laterWithin goodAmounts notNegative heldBetween
 figures = refl

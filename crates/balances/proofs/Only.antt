@@ -11,7 +11,7 @@ use Rattle.balances.specs.declared.assessing.Assessment.the-variants.{Fo
 use Rattle.balances.specs.Assessment.{assessRows, assessGiven, assessNumber, assessFigures}
 
 -- the number and the figures determine the case
-same-assessment : (r s : Assessment) → assessNumber r ≡ assessNumber s → assessFigures r ≡ assessFigures s → r ≡ s
+pub same-assessment : (r s : Assessment) → assessNumber r ≡ assessNumber s → assessFigures r ≡ assessFigures s → r ≡ s
 same-assessment (Found x) (Found y) n f = ap Found f
 same-assessment (Found x) (Refused why) n f = absurd (not-suc-le-zero {n = 0} (omega (arith, never-zero why)))
 same-assessment (Refused why) (Found y) n f = absurd (not-suc-le-zero {n = 0} (omega (arith, never-zero why)))

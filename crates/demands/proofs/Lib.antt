@@ -1,5 +1,6 @@
--- The demands, each in a file of its own, and the laws that they rest on.
+-- The demands, each in a file of its own, the laws that they rest on, and the marked figures.
 pub mod Keeping
 pub mod Standing
 pub mod Slots
 pub mod Demand3
+pub mod Figures

@@ -1,1 +1,1 @@
-// The demands as theorems: proofs/Demand3.antt. It has no code.
+// The demands as theorems: proofs/Demand3.antt. The marked figures as one: proofs/Figures.antt. It has no code.

@@ -1,0 +1,186 @@
+-- What a period's assessment comes to, from what the calls made on the way answer. Assumes nothing.
+use mathlib.Core.Path.{_≡_, refl, sym, ap, _∙_}
+use mathlib.Core.Bool.{Bool, true, false, cond, not, _&&_}
+use mathlib.Core.List.{List, [], _∷_, map}
+use Prim.Native.Nat.{ℕ, zero, suc, _≤_, _<_}
+use native.Mathlib.Omega.{arith}
+use lib.Dec.{eqb, leb}
+use lib.ListN.{length, getD}
+use lib.IntN.{ℤ, pos, natAbs, _+ℤ_}
+use lib.Signed.{ltZ, nonNeg}
+use Rattle.lists.specs.Lists.{all}
+use Rattle.lists.proofs.Tests.{and-left, and-right, and-made, not-no, not-yes}
+use Rattle.lists.proofs.Lists.{all-at}
+use Rattle.refusals.specs.declared.Refusal.{Refusal}
+use Rattle.refusals.specs.declared.Refusal.the-variants.{BadBook, BrokenLog, BadYear, TooLarge, FloorAboveCap}
+use Rattle.refusals.specs.declared.Answer.the-variants as answer
+use Rattle.refusals.specs.Refusals.{lowest, accepted, numberOf}
+use Rattle.refusals.proofs.Laws.{all-clear, never-zero, refused-not}
+use Rattle.outage.specs.declared.Log.{Log}
+use Rattle.outage.specs.Log.{validLog, goodRegimeEnd}
+use Rattle.money.proofs.Pounds.{nonNeg-is}
+use Rattle.money.proofs.Rounded.{round-nonneg}
+use Rattle.calendar.specs.Years.{goodYear}
+use Rattle.year.specs.declared.Year.{Year}
+use Rattle.year.specs.Year.{goodYearRecord, goodPppi, goodRate, goodFactors, goodLines}
+use Rattle.levels.specs.declared.Book.{Book}
+use Rattle.levels.specs.declared.measuring.Availability.{Availability}
+use Rattle.levels.specs.declared.measuring.Availability.the-variants as availability
+use Rattle.levels.specs.Book.{bookHolds, goodBook, goodSum, goodTarget, goodFactor, small, capSum, floorSum}
+use Rattle.levels.specs.Availability.{availabilityRows, availabilityNumber}
+use Rattle.levels.specs.Levels.{timesOf, levelOf, capLevel, floorOf, levelFits}
+use Rattle.levels.proofs.Only.{AvailabilityGives}
+use Rattle.revenue.specs.Revenue.{assessedRevenue}
+use Rattle.balances.specs.declared.assessing.Yearly.{Yearly}
+use Rattle.balances.specs.declared.assessing.Assessment.{Assessment}
+use Rattle.balances.specs.declared.assessing.Assessment.the-variants.{Refused}
+use Rattle.balances.specs.Balance.{goodIndex, goodAmount, goodAmounts}
+use Rattle.balances.specs.Assessment.{ARN, CLN, FLN, WPAN, assessRows, assessGiven, balancesWithin, figuresOf, goodYearly, noFigures, notNegative}
+use Rattle.balances.proofs.Only.{AssessGives}
+use Rattle.assessment.specs.Period.{periodRows, periodGiven, yearFits, yearlyOf, yearsGood, onePeriod}
+use Rattle.assessment.proofs.Years.{noYear, map-at}
+use Rattle.assessment.proofs.Only.{PeriodGives}
+
+-- ---- levels are not negative
+times-good : (z : ℤ) (factor : ℕ) → nonNeg z ≡ true → nonNeg (timesOf z factor) ≡ true
+unfolding timesOf
+times-good z factor h = ap nonNeg (round-nonneg z factor 10000 (not-yes (ltZ z (pos 0)) (sym (nonNeg-is z) ∙ h)))
+
+level-good : (partial : ℕ) (sum : ℤ) (incentive pppi : ℕ) → nonNeg sum ≡ true → nonNeg (levelOf partial sum incentive pppi) ≡ true
+unfolding levelOf
+level-good partial sum incentive pppi h =
+    times-good (timesOf (timesOf sum partial) incentive) pppi (times-good (timesOf sum partial) incentive (times-good sum partial h))
+
+sum-good : (p c o : ℤ) → goodSum p c o ≡ true → nonNeg (p +ℤ c +ℤ o) ≡ true
+sum-good p c o g =
+    let s = p +ℤ c +ℤ o in
+    let rest = small o && (nonNeg s && small s) in
+    let t = and-right (small c) rest (and-right (nonNeg p && small p) (small c && rest) g) in
+    and-left (nonNeg s) (small s) (and-right (small o) (nonNeg s && small s) t)
+
+sums-good : (b : Book) → goodBook b ≡ true → (nonNeg (capSum b) ≡ true) × (nonNeg (floorSum b) ≡ true)
+unfolding goodBook
+sums-good b g =
+    let f = goodFactor (b .«miss_factor») in
+    let c = goodSum (b .pcl) (b .pcac) (b .orac) in
+    let d = goodSum (b .pfl) (b .pcaf) (b .oraf) in
+    let t = goodTarget (b .«first_target») in
+    let u = goodTarget (b .«last_target») in
+    let p = and-right (goodRegimeEnd (b .«regime_end»)) (t && (u && (f && (c && d)))) g in
+    let r = and-right f (c && d) (and-right u (f && (c && d)) (and-right t (u && (f && (c && d))) p)) in
+    (sum-good (b .pcl) (b .pcac) (b .orac) (and-left c d r), sum-good (b .pfl) (b .pcaf) (b .oraf) (and-right c d r))
+
+-- ---- a year in range has an index and a W in range
+year-index : (y : Year) → goodYearRecord y ≡ true → goodIndex (y .pppi) ≡ true
+year-index y g =
+    let rest = goodRate (y .rate) && (leb (y .aic) 20000 && (leb (y .pyc) 10000 && leb (y .pyf) 10000)) in
+    let f = and-left (goodFactors (y .number) (y .pppi) (y .rate) (y .aic) (y .pyc) (y .pyf)) (goodAmount (y .within) && goodLines (y .lines) (y .«line_count»)) g in
+    and-left (goodPppi (y .pppi)) rest (and-right (goodYear (y .number)) (goodPppi (y .pppi) && rest) f)
+
+year-within : (y : Year) → goodYearRecord y ≡ true → goodAmount (y .within) ≡ true
+year-within y g =
+    and-left (goodAmount (y .within)) (goodLines (y .lines) (y .«line_count»))
+    (and-right (goodFactors (y .number) (y .pppi) (y .rate) (y .aic) (y .pyc) (y .pyf)) (goodAmount (y .within) && goodLines (y .lines) (y .«line_count»)) g)
+
+-- ---- amounts taken year by year
+module _ (f : Year → ℤ) (years : List Year) where
+  amounts-good : (n : ℕ) → n ≤ length years → all goodYearRecord years ≡ true → ((k : ℕ) → k < length years → goodAmount (f (getD years k noYear)) ≡ true)
+      → goodAmounts (map (λ (y : Year). y .pppi) years) (map f years) n ≡ true
+  unfolding goodAmounts
+  amounts-good zero h g a = refl
+  amounts-good (suc n) h g a =
+      and-made
+      (and-made
+      (ap goodIndex (map-at (λ (y : Year). y .pppi) years n noYear 0 h) ∙ year-index (getD years n noYear) (all-at goodYearRecord noYear years g n h))
+      (ap goodAmount (map-at f years n noYear (pos 0) h) ∙ a n h))
+      (amounts-good n (omega arith) g a)
+
+  amounts-positive : (n : ℕ) → n ≤ length years → ((k : ℕ) → k < length years → nonNeg (f (getD years k noYear)) ≡ true) → notNegative (map f years) n ≡ true
+  unfolding notNegative
+  amounts-positive zero h a = refl
+  amounts-positive (suc n) h a = and-made (ap nonNeg (map-at f years n noYear (pos 0) h) ∙ a n h) (amounts-positive n (omega arith) a)
+
+module _ (book : Book) (years : List Year) (log : Log) where
+  -- the amounts of years in range that fit are in range for the balances
+  pub amounts-in-range : length years ≡ 5 → goodBook book ≡ true → all goodYearRecord years ≡ true → all (yearFits book log) years ≡ true
+      → goodYearly (yearlyOf book years log) 5 ≡ true
+  amounts-in-range len b g f =
+      let long : 5 ≤ length years = omega arith in
+      let sums = sums-good book b in
+      let fits : (k : ℕ) → k < length years → yearFits book log (getD years k noYear) ≡ true = λ k h. all-at (yearFits book log) noYear years f k h in
+      let caps : (k : ℕ) → k < length years → levelFits (capLevel book (getD years k noYear)) ≡ true =
+      λ k h. and-left (levelFits (capLevel book (getD years k noYear))) (levelFits (floorOf book (getD years k noYear) log) && levelFits (assessedRevenue (getD years k noYear))) (fits k h) in
+      let others : (k : ℕ) → k < length years → (levelFits (floorOf book (getD years k noYear) log) && levelFits (assessedRevenue (getD years k noYear))) ≡ true =
+      λ k h. and-right (levelFits (capLevel book (getD years k noYear))) (levelFits (floorOf book (getD years k noYear) log) && levelFits (assessedRevenue (getD years k noYear))) (fits k h) in
+      and-made
+      (amounts-good assessedRevenue years 5 long g
+      (λ k h. and-right (levelFits (floorOf book (getD years k noYear) log)) (levelFits (assessedRevenue (getD years k noYear))) (others k h)))
+      (and-made
+      (amounts-good (capLevel book) years 5 long g caps)
+      (and-made
+      (amounts-positive (capLevel book) years 5 long (λ k h. level-good _ (capSum book) _ _ (sums .0)))
+      (and-made
+      (amounts-good (λ (y : Year). floorOf book y log) years 5 long g
+      (λ k h. and-left (levelFits (floorOf book (getD years k noYear) log)) (levelFits (assessedRevenue (getD years k noYear))) (others k h)))
+      (and-made
+      (amounts-positive (λ (y : Year). floorOf book y log) years 5 long (λ k h. level-good _ (floorSum book) _ _ (sums .1)))
+      (amounts-good (λ (y : Year). y .within) years 5 long g
+      (λ k h. year-within (getD years k noYear) (all-at goodYearRecord noYear years g k h)))))))
+
+  -- ---- what is given
+  -- a refusal's number says that nothing is given
+  gives-none : (why : Refusal) → numberOf why ≡ lowest (periodRows book years log) → PeriodGives book years log (Refused why)
+  gives-none why n =
+      let none : accepted (periodRows book years log) ≡ false = refused-not (answer.Refused why) (periodRows book years log) why n refl in
+      let y = yearlyOf book years log in
+      (n, ap (λ (b : Bool). cond b (figuresOf (ARN y 5) (CLN y 5) (FLN y 5) (WPAN y 5)) noFigures) (sym none))
+
+  -- the book or the log is refused, as it is for the first year
+  pub gives-no-availability : (r : Availability) (why : Refusal) → AvailabilityGives book log 1 r → r ≡ availability.Refused why → PeriodGives book years log (Refused why)
+  gives-no-availability r why g e =
+      let y = yearlyOf book years log in
+      let stop = same-stop (bookHolds book (log .«regime_end»)) (validLog log) (not (yearsGood years)) (not (all (yearFits book log) years && balancesWithin y 5)) (ltZ (CLN y 5) (FLN y 5)) in
+      let n : numberOf why ≡ lowest (availabilityRows book log 1) = sym (ap availabilityNumber e) ∙ g .0 in
+      gives-none why (n ∙ stop (omega (arith, never-zero why)))
+    where
+      same-stop : (b v y t f : Bool)
+          → 0 < lowest ((BadBook, not b) ∷ (BrokenLog, not v) ∷ (BadYear, false) ∷ [])
+          → lowest ((BadBook, not b) ∷ (BrokenLog, not v) ∷ (BadYear, false) ∷ [])
+          ≡ lowest ((BadBook, not b) ∷ (BrokenLog, not v) ∷ (BadYear, y) ∷ (TooLarge, t) ∷ (FloorAboveCap, f) ∷ [])
+      same-stop false v y t f h = refl
+      same-stop true false y t f h = refl
+      same-stop true true y t f h = absurd (omega arith)
+
+  pub book-told : (r : Availability) (x : ℕ) → AvailabilityGives book log 1 r → r ≡ availability.MwMinutes x → bookHolds book (log .«regime_end») ≡ true
+  book-told r x g e =
+      not-no (bookHolds book (log .«regime_end»)) (all-clear (availabilityRows book log 1) (sym (g .0) ∙ ap availabilityNumber e) .0)
+
+  pub log-told : (r : Availability) (x : ℕ) → AvailabilityGives book log 1 r → r ≡ availability.MwMinutes x → validLog log ≡ true
+  log-told r x g e = not-no (validLog log) (all-clear (availabilityRows book log 1) (sym (g .0) ∙ ap availabilityNumber e) .1 .0)
+
+  module _ (b : bookHolds book (log .«regime_end») ≡ true) (v : validLog log ≡ true) where
+    pub gives-bad-years : yearsGood years ≡ false → PeriodGives book years log (Refused BadYear)
+    gives-bad-years g = let n : 9 ≡ lowest (periodRows book years log) = simp (b, v, g) in gives-none BadYear n
+
+    pub gives-too-large : yearsGood years ≡ true → all (yearFits book log) years ≡ false → PeriodGives book years log (Refused TooLarge)
+    gives-too-large g f = let n : 11 ≡ lowest (periodRows book years log) = simp (b, v, g, f) in gives-none TooLarge n
+
+    -- the balances' answer is the period's
+    pub gives-assessed : length years ≡ 5 → yearsGood years ≡ true → all goodYearRecord years ≡ true → all (yearFits book log) years ≡ true
+        → (r : Assessment) → AssessGives (yearlyOf book years log) r → PeriodGives book years log r
+    gives-assessed len g h f r a =
+        let y = yearlyOf book years log in
+        let range = amounts-in-range len (and-left (goodBook book) (eqb (book .«regime_end») (log .«regime_end»)) b) h f in
+        let n : lowest (assessRows y) ≡ lowest (periodRows book years log) =
+        same-rows (bookHolds book (log .«regime_end»)) (validLog log) (yearsGood years) (all (yearFits book log) years) (goodYearly y 5) (balancesWithin y 5) (ltZ (CLN y 5) (FLN y 5)) b v g f range in
+        (a .0 ∙ n, a .1 ∙ ap (λ (k : ℕ). cond (eqb k 0) (figuresOf (ARN y 5) (CLN y 5) (FLN y 5) (WPAN y 5)) noFigures) n)
+      where
+        same-rows : (b v g f r w t : Bool) → b ≡ true → v ≡ true → g ≡ true → f ≡ true → r ≡ true
+            → lowest ((BadYear, not r) ∷ (TooLarge, not w) ∷ (FloorAboveCap, t) ∷ [])
+            ≡ lowest ((BadBook, not b) ∷ (BrokenLog, not v) ∷ (BadYear, not g) ∷ (TooLarge, not (f && w)) ∷ (FloorAboveCap, t) ∷ [])
+        same-rows b v g f r w t i j k l m = simp (i, j, k, l, m)
+
+-- years that are those of one period are in range
+pub good-records : (years : List Year) → yearsGood years ≡ true → all goodYearRecord years ≡ true
+unfolding yearsGood
+good-records years g = and-left (all goodYearRecord years) (onePeriod years) g

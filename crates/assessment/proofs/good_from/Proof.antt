@@ -1,0 +1,120 @@
+use mathlib.Core.Path.{_≡_, sym, ap, _∙_}
+use mathlib.Core.Bool.{_&&_}
+use mathlib.Core.List.{List}
+use Prim.Native.Nat.{_≤_, _+_, _-_}
+use native.Mathlib.Omega.{arith}
+use borrow.Author.Needs.{needs}
+use lib.ListN.{length, getD, drop-of-length-le}
+use Rattle.lists.proofs.Tests.{held}
+use Rattle.lists.specs.Lists.{all}
+use Rattle.year.specs.declared.Year.{Year}
+use Rattle.year.specs.Year.{goodYearRecord}
+use Rattle.assessment.specs.Period.{goodFrom, numbersFrom}
+use Rattle.assessment.proofs.Years.{noYear, goodRest, rest-start, rest-bad-year, rest-bad-number, rest-next, year-good, year-bad}
+use Rattle.assessment.proofs.good_from.Statement.{statement}
+use Rattle.assessment.proofs.good_from.Tie as tie
+use Rattle.assessment.proofs.good_from.Reads as reads
+use Rattle.assessment.proofs.good_from.Lts as lts
+use Rattle.year.proofs.check_year.Reads as check-year-reads
+
+-- the years to come decide
+abbrev Inv-loop : tie.InvT-loop
+Inv-loop number years k₀ k = (k ≤ 5) × (goodFrom number years ≡ goodRest number k years)
+
+abbrev μ-loop : tie.MeasureT-loop
+μ-loop number years k₀ k = 5 - k
+
+len : (c : tie.Start Inv-loop μ-loop) → length (c .args .t1) ≡ 5
+len c = search (needs, held)
+
+loop-holds : tie.Need-loop-holds Inv-loop μ-loop
+loop-holds c = (omega arith, rest-start (c .args .number) (c .args .t1))
+
+mul-y : tie.Need-mul-y Inv-loop μ-loop
+mul-y c = search needs
+
+array-copy-out-y : tie.Need-array-copy-out-y Inv-loop μ-loop
+array-copy-out-y c = search needs
+
+check-year-requires : tie.Need-check-year-requires Inv-loop μ-loop
+check-year-requires c κs = search needs
+
+enum-told : tie.Need-enum-told Inv-loop μ-loop
+enum-told c = search needs
+
+returns : tie.Need-returns Inv-loop μ-loop
+returns c =
+    let y = c .before .before in
+    let a = y .before .before .before in
+    let s = a .before .args in
+    let x = getD (s .t1) (a .loop .k) noYear in
+    sym (a .loop .inv .1
+    ∙ rest-bad-year (s .number) (a .loop .k) (s .t1) noYear (omega (arith, len (a .before)))
+    (year-bad x (y .check-year .result) (y .check-year .ensures) (c .enum-told .given .0 .0) (c .enum-told .given .1)))
+
+enum-told-2 : tie.Need-enum-told-2 Inv-loop μ-loop
+enum-told-2 c = search needs
+
+cast-if1 : tie.Need-cast-if1 Inv-loop μ-loop
+cast-if1 c = search needs
+
+add-if1 : tie.Need-add-if1 Inv-loop μ-loop
+add-if1 c = search needs
+
+returns-2 : tie.Need-returns-2 Inv-loop μ-loop
+returns-2 c =
+    let t = c .before .before in
+    let y = t .before .before in
+    let a = y .before .before .before in
+    let s = a .before .args in
+    let x = getD (s .t1) (a .loop .k) noYear in
+    sym (a .loop .inv .1
+    ∙ rest-bad-number (s .number) (a .loop .k) (s .t1) noYear (omega (arith, len (a .before)))
+    (year-good x (y .check-year .result) (y .check-year .ensures) (t .enum-told2 .given .1)) (c .if1 .taken))
+
+add-k : tie.Need-add-k Inv-loop μ-loop
+add-k c = search needs
+
+loop-less : tie.Need-loop-less Inv-loop μ-loop
+loop-less c = search needs
+
+loop-again : tie.Need-loop-again Inv-loop μ-loop
+loop-again c =
+    let t = c .before .before in
+    let y = t .before .before in
+    let a = y .before .before .before in
+    let s = a .before .args in
+    let x = getD (s .t1) (a .loop .k) noYear in (
+      omega arith,
+      a .loop .inv .1
+          ∙ rest-next (s .number) (a .loop .k) (s .t1) noYear (omega (arith, len (a .before)))
+          (year-good x (y .check-year .result) (y .check-year .ensures) (t .enum-told2 .given .1)) (c .if1 .left),
+    )
+
+returns-3 : tie.Need-returns-3 Inv-loop μ-loop
+returns-3 c =
+    let a = c .before in
+    let s = a .before .args in
+    let z = drop-of-length-le (s .t1) {i = a .loop .k} (omega (arith, len (a .before))) in
+    sym (a .loop .inv .1 ∙ ap (λ (l : List Year). all goodYearRecord l && numbersFrom (s .number + a .loop .k) l) z)
+
+pub good-from-spec : {M : Type 1} → statement M
+good-from-spec =
+    tie.close
+    (tie.spec
+    Inv-loop
+    μ-loop
+    loop-holds
+    mul-y
+    array-copy-out-y
+    check-year-requires
+    enum-told
+    returns
+    enum-told-2
+    cast-if1
+    add-if1
+    returns-2
+    add-k
+    loop-less
+    loop-again
+    returns-3)

@@ -1,0 +1,2 @@
+-- The assessment of a period.
+pub mod Period
