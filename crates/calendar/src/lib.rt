@@ -44,6 +44,26 @@ impl YearMinutes {
     pub const FIRST_YEAR: u8 = 1;
 
     pub const LAST_YEAR: u8 = 25;
+
+    // The first minute, 0 beside a refusal.
+    pub fn first_minute(self) -> u32
+        ensures { λ r. ⌜ r ≡ firstFigure self ⌝ }
+    {
+        match self {
+            YearMinutes::Span { first, end: _ } => first,
+            YearMinutes::Refused(_) => 0,
+        }
+    }
+
+    // The minute that the year ends at, 0 beside a refusal.
+    pub fn end_minute(self) -> u32
+        ensures { λ r. ⌜ r ≡ endFigure self ⌝ }
+    {
+        match self {
+            YearMinutes::Span { first: _, end } => end,
+            YearMinutes::Refused(_) => 0,
+        }
+    }
 }
 
 // The first minute of a year from 1 to 25.

@@ -16,7 +16,8 @@ use Rattle.outage.specs.declared.Log.{Log}
 use Rattle.outage.specs.Log.{goodRegimeEnd, lastRegimeEnd, live, holding, filed, startsAt, without}
 use Rattle.outage.specs.Calls.{emptyLog, enterRows, enterLog, cancelRows, cancelLog}
 use Rattle.demands.specs.Log.{Call, entering, cancelling, numberTo, logAfter, after, answered, Event, put, takenOut, done, events, cancelledBy, cancelledSince, standing}
-use Rattle.demands.proofs.Keeping.{Sound, holding-live, holding-valid, total-filed, entered-sound, cancelled-sound}
+use Rattle.outage.proofs.Holding.{holding-live, holding-valid}
+use Rattle.demands.proofs.Keeping.{Sound, total-filed, entered-sound, cancelled-sound}
 
 -- ---- one event more
 since-more : (e : Entry) (since : List Event) (event : Event) → cancelledSince e (since ++ event ∷ []) ≡ (cancelledSince e since || cancelledBy e event)

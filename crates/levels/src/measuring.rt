@@ -15,7 +15,6 @@ ghost use Prim.Native.Nat.{_≤_};
 ghost use lib.IntN.{natAbs, _+ℤ_};
 ghost use lib.Signed.{nonNeg};
 ghost use Rattle.refusals.specs.Refusals.{lowest};
-ghost use Rattle.calendar.specs.Years.{endFigure, firstFigure};
 ghost use Rattle.levels.specs.Book.{bookHolds, goodBook, goodSum, small, targetOf};
 ghost use Rattle.levels.specs.Availability.{
   availabilityFigure,
@@ -109,26 +108,6 @@ fn book_holds(b: Book, regime_end: u32) -> bool
     b.regime_end == regime_end
 }
 
-// The first minute that an answer of the calendar gives, 0 beside a refusal.
-fn first_of(m: YearMinutes) -> u32
-    ensures { λ r. ⌜ r ≡ firstFigure m ⌝ }
-{
-    match m {
-        YearMinutes::Span { first, end: _ } => first,
-        YearMinutes::Refused(_) => 0,
-    }
-}
-
-// The end that an answer of the calendar gives, 0 beside a refusal.
-fn end_of(m: YearMinutes) -> u32
-    ensures { λ r. ⌜ r ≡ endFigure m ⌝ }
-{
-    match m {
-        YearMinutes::Span { first: _, end } => end,
-        YearMinutes::Refused(_) => 0,
-    }
-}
-
 // Availability of a year: rated capacity times its minutes, less its lost energy.
 pub fn availability_of(book: Book, log: Log, number: u8) -> Availability
     ensures { λ r. ⌜
@@ -139,8 +118,8 @@ pub fn availability_of(book: Book, log: Log, number: u8) -> Availability
         return Availability::Refused(Refusal::BadBook);
     }
     let minutes = year_minutes(number, log.regime_end);
-    let first = first_of(minutes);
-    let end = end_of(minutes);
+    let first = minutes.first_minute();
+    let end = minutes.end_minute();
     let lost = lost_energy(log, first, end);
     let LostEnergy::MwMinutes(x) = lost else {
         return Availability::Refused(Refusal::BrokenLog);

@@ -17,7 +17,7 @@ ghost use Rattle.refusals.specs.Refusals.{answerNumber, lowest};
 ghost use Rattle.year.specs.Year.{goodFactors, goodLine, goodLines, isZeroLine, lineSlots, yearRows};
 
 // A line's kind, currency and amount are in range.
-fn good_line(l: Line) -> bool
+pub fn good_line(l: Line) -> bool
     ensures { λ r. ⌜ r ≡ goodLine l ⌝ }
 {
     let kind = l.kind;

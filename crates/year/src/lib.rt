@@ -3,6 +3,7 @@
 mod checking;
 
 pub use checking::check_year;
+pub use checking::good_line;
 use outage::Log;
 ghost use mathlib.Core.Path.{_≡_};
 ghost use Rattle.year.specs.Year.{freshYear, zeroLine};

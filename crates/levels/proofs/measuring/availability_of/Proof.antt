@@ -19,11 +19,11 @@ use Rattle.levels.proofs.measuring.availability_of.Tie as tie
 held : (c : tie.Else1) → bookHolds (c .before .before .args .book) (c .before .before .args .log .«regime_end») ≡ true
 held c = sym (c .before .book-holds .ensures) ∙ not-false _ (c .if1 .left)
 
-first : (c : tie.After-end-of) → c .before .first-of .result ≡ firstOf (c .before .before .before .before .before .args .number)
-first c = c .before .first-of .ensures ∙ c .before .before .year-minutes .ensures .1
+first : (c : tie.After-end-minute) → c .before .first-minute .result ≡ firstOf (c .before .before .before .before .before .args .number)
+first c = c .before .first-minute .ensures ∙ c .before .before .year-minutes .ensures .1
 
-end : (c : tie.After-end-of) → c .end-of .result ≡ endOf (c .before .before .before .before .before .args .number) (c .before .before .before .before .before .args .log .«regime_end»)
-end c = c .end-of .ensures ∙ c .before .before .year-minutes .ensures .2
+end : (c : tie.After-end-minute) → c .end-minute .result ≡ endOf (c .before .before .before .before .before .args .number) (c .before .before .before .before .before .args .log .«regime_end»)
+end c = c .end-minute .ensures ∙ c .before .before .year-minutes .ensures .2
 
 gave : (c : tie.After-lost-energy) → (let a = c .before .before .before .before .before .before .args in LostGives (a .log) (firstOf (a .number)) (endOf (a .number) (a .log .«regime_end»)) (c .lost-energy .result))
 gave c =
@@ -31,7 +31,7 @@ gave c =
     let log = e .before .before .before .before .before .args .log in
     let r = c .lost-energy .result in
     subst (λ (a : ℕ). LostGives log a (endOf (e .before .before .before .before .before .args .number) (log .«regime_end»)) r) (first e)
-    (subst (λ (b : ℕ). LostGives log (e .before .first-of .result) b r) (end e) (c .lost-energy .ensures))
+    (subst (λ (b : ℕ). LostGives log (e .before .first-minute .result) b r) (end e) (c .lost-energy .ensures))
 
 valid : (c : tie.After-known-told) → validLog (c .before .before .before .before .before .before .before .before .before .args .log) ≡ true
 valid c =
@@ -57,11 +57,11 @@ returns c =
 year-minutes-requires : tie.Need-year-minutes-requires
 year-minutes-requires c κs = search needs
 
-first-of-requires : tie.Need-first-of-requires
-first-of-requires c κs = search needs
+first-minute-requires : tie.Need-first-minute-requires
+first-minute-requires c κs = search needs
 
-end-of-requires : tie.Need-end-of-requires
-end-of-requires c κs = search needs
+end-minute-requires : tie.Need-end-minute-requires
+end-minute-requires c κs = search needs
 
 lost-energy-requires : tie.Need-lost-energy-requires
 lost-energy-requires c κs = search needs
@@ -123,7 +123,7 @@ returns-4 c =
     let a = y .before .before .before .args in
     let x = k .before .lost .given .0 .0 in
     let g = span-good (a .number) (a .log .«regime_end») (y .year-minutes .result) (y .year-minutes .ensures) (c .enum-told2 .given .0 .0) (c .enum-told2 .given .0 .1 .0) (c .enum-told2 .given .1) in
-    gives-figure (a .book) (a .log) (a .number) (1000 * (e .end-of .result - e .before .first-of .result) - x) (held (y .before)) (valid k) g
+    gives-figure (a .book) (a .log) (a .number) (1000 * (e .end-minute .result - e .before .first-minute .result) - x) (held (y .before)) (valid k) g
     (rw (first e, end e) (availability-is (a .log) (a .number) x g (figure k)))
 
 pub availability-of-spec : {M : Type 1} → statement M
@@ -133,8 +133,8 @@ availability-of-spec =
     book-holds-requires
     returns
     year-minutes-requires
-    first-of-requires
-    end-of-requires
+    first-minute-requires
+    end-minute-requires
     lost-energy-requires
     enum-known-lost
     enum-told

@@ -1,0 +1,186 @@
+-- The laws of fields in order: what is written is read back, and what is read is what would be written. The tags of a part
+-- lie from `lo` on and below `hi`, and what follows it starts with none below `hi`. Assumes nothing.
+use mathlib.Core.Path.{_≡_, refl, sym, ap, ap₂, subst, _∙_}
+use mathlib.Core.Bool.{Bool, true, false, _&&_, _||_}
+use mathlib.Core.List.{List, [], _∷_, _++_, append-assoc, append-nil}
+use mathlib.Core.Option.{Option, some, none}
+use Prim.Native.Nat.{ℕ, zero, suc, _+_, _-_, _*_, _≤_, _<_, _^_}
+use native.Mathlib.Nat.{le-trans, le-refl, lt-of-le-of-lt, mul-zero, mul-suc, add-comm}
+use native.Mathlib.Omega.{arith}
+use native.Mathlib.Numerals.{add-one}
+use lib.ListN.{length, take, drop, getD, length-append, length-drop, take-append-drop}
+use lib.Dec.{leb, eqb}
+use lib.Seq.{take-at, drop-at, getD-append-add, length-take-le, getD-drop, getD-take, drop-drop, append-snoc, take-suc, drop-cons, drop-append-le}
+use borrow.Author.Tests.{eq-eqb, eqb-true, ne-eqb, le-leb, leb-true}
+use lib.IntN.{ℤ, pos, negsuc, natAbs}
+use mir.Syntax.{w64}
+use mir.Val.{toZ, ofZ, Fits, SFits}
+use mir.ValLaws.{toZ-ofZ, ofZ-toZ, ofZ-fits}
+use Rattle.lists.proofs.Tests.{and-left, and-right, le-or-lt}
+use Rattle.codec.specs.Numbers.{spelled, bytesOf, Bytes}
+use Rattle.codec.specs.Fields.{head, framed, isWhole}
+use Rattle.codec.specs.Format.{Item, Res, got, stuck, Codec, need, one, orElse, unless, opt, more, scan, texts, allFine, many, pairUp, andThen, both}
+use Rattle.codec.proofs.Values.{bytes-drop, bytes-right}
+use Rattle.codec.proofs.Items.{Over, over-le, ItemLaws}
+
+pub record Lawful {A : Type 0} (c : Codec A) (lo hi : ℕ) : Type 0 where
+  pub there : (a : A) (rest : List ℕ) → c .ok a ≡ true → Over hi rest → c .read (c .write a ++ rest) ≡ got a rest
+  pub over : (a : A) (rest : List ℕ) → c .ok a ≡ true → Over hi rest → Over lo (c .write a ++ rest)
+  pub back : (bs : List ℕ) (a : A) (rest : List ℕ) → Bytes bs → c .read bs ≡ got a rest → (bs ≡ c .write a ++ rest) × (c .ok a ≡ true)
+
+module _ {A : Type 0} (f : Item A) (l : ItemLaws f) where
+  need-back : (bs : List ℕ) (o : Option A) → f .look bs ≡ o → (a : A) (rest : List ℕ) → Bytes bs → need f bs o ≡ got a rest → (bs ≡ f .text a ++ rest) × (f .fine a ≡ true)
+  need-back bs none e a rest b h = absurd (let z : _≡_ {A = ℕ} 0 1 = cc in omega arith)
+  need-back bs (some x) e a rest b h =
+      let p : x ≡ a = cc in
+      let q : drop (f .size x) bs ≡ rest = cc in
+      rw (← q, ← p) (l .back bs x b e)
+
+  pub one-lawful : Lawful (one f) (f .tag) (suc (f .tag))
+  one-lawful =
+      record {
+        there = λ a rest h o. rw (l .there a rest h) (ap (got a) (l .after a rest h));
+        over = λ a rest h o. l .over a rest;
+        back = λ bs a rest b h. need-back bs (f .look bs) refl a rest b h;
+      }
+
+  module _ (d : A) (is : A → Bool) (is-d : is d ≡ true) (d-is : (a : A) → is a ≡ true → a ≡ d) (not-fine : (a : A) → f .fine a ≡ true → is a ≡ false) where
+    opt-there : (a : A) (t : Bool) → is a ≡ t → (rest : List ℕ) → (t || f .fine a) ≡ true → Over (suc (f .tag)) rest → orElse f d (unless t (f .text a) ++ rest) (f .look (unless t (f .text a) ++ rest)) ≡ got a rest
+    opt-there a true e rest h o = rw (l .other rest o) (ap (λ (x : A). got x rest) (sym (d-is a e)))
+    opt-there a false e rest h o = rw (l .there a rest h) (ap (got a) (l .after a rest h))
+
+    opt-over : (a : A) (t : Bool) → (rest : List ℕ) → Over (suc (f .tag)) rest → Over (f .tag) (unless t (f .text a) ++ rest)
+    opt-over a true rest o = over-le (omega arith) rest o
+    opt-over a false rest o = l .over a rest
+
+    opt-back : (bs : List ℕ) (o : Option A) → f .look bs ≡ o → (a : A) (rest : List ℕ) → Bytes bs → orElse f d bs o ≡ got a rest → (bs ≡ unless (is a) (f .text a) ++ rest) × ((is a || f .fine a) ≡ true)
+    opt-back bs none e a rest b h =
+        let p : d ≡ a = cc in
+        let q : bs ≡ rest = cc in
+        rw (← p, is-d) (q, refl)
+    opt-back bs (some x) e a rest b h =
+        let p : x ≡ a = cc in
+        let q : drop (f .size x) bs ≡ rest = cc in
+        let k = l .back bs x b e in
+        rw (← q, ← p, not-fine x (k .1)) k
+
+    pub opt-lawful : Lawful (opt f d is) (f .tag) (suc (f .tag))
+    opt-lawful =
+        record {
+          there = λ a rest h o. opt-there a (is a) refl rest h o;
+          over = λ a rest h o. opt-over a (is a) rest o;
+          back = λ bs a rest b h. opt-back bs (f .look bs) refl a rest b h;
+        }
+
+module _ {A B : Type 0} (c : Codec A) (d : A → Codec B) (lo mid hi : ℕ) (lc : Lawful c lo mid) (ld : (a : A) → Lawful (d a) mid hi) where
+  both-there : (a : A) (b : B) (rest : List ℕ) → (c .ok a && d a .ok b) ≡ true → Over hi rest → andThen d (c .read ((c .write a ++ d a .write b) ++ rest)) ≡ got (a, b) rest
+  both-there a b rest h o =
+      let ha : c .ok a ≡ true = and-left (c .ok a) (d a .ok b) h in
+      let hb : d a .ok b ≡ true = and-right (c .ok a) (d a .ok b) h in
+      rw (append-assoc (c .write a) (d a .write b) rest, lc .there a (d a .write b ++ rest) ha (ld a .over b rest hb o), ld a .there b rest hb o)
+
+  both-over : (a : A) (b : B) (rest : List ℕ) → (c .ok a && d a .ok b) ≡ true → Over hi rest → Over lo ((c .write a ++ d a .write b) ++ rest)
+  both-over a b rest h o =
+      let ha : c .ok a ≡ true = and-left (c .ok a) (d a .ok b) h in
+      let hb : d a .ok b ≡ true = and-right (c .ok a) (d a .ok b) h in
+      rw (append-assoc (c .write a) (d a .write b) rest) (lc .over a (d a .write b ++ rest) ha (ld a .over b rest hb o))
+
+  both-back : (bs r1 : List ℕ) (x : A) → Bytes bs → (bs ≡ c .write x ++ r1) × (c .ok x ≡ true) → (r : Res B) → d x .read r1 ≡ r → (p : A × B) (rest : List ℕ) → pairUp x r ≡ got p rest → (bs ≡ (c .write (p .0) ++ d (p .0) .write (p .1)) ++ rest) × ((c .ok (p .0) && d (p .0) .ok (p .1)) ≡ true)
+  both-back bs r1 x b k (stuck n r2) e p rest h = absurd (let z : _≡_ {A = ℕ} 0 1 = cc in omega arith)
+  both-back bs r1 x b k (got y r2) e p rest h =
+      let pe : (x, y) ≡ p = cc in
+      let q : r2 ≡ rest = cc in
+      let b1 : Bytes r1 = bytes-right (c .write x) r1 (subst Bytes (k .0) b) in
+      let m = ld x .back r1 y r2 b1 e in
+      rw (← pe, ← q)
+      (k .0 ∙ ap (λ (n : List ℕ). c .write x ++ n) (m .0) ∙ sym (append-assoc (c .write x) (d x .write y) r2), rw (k .1) (m .1))
+
+  and-back : (bs : List ℕ) → Bytes bs → (r : Res A) → c .read bs ≡ r → (p : A × B) (rest : List ℕ) → andThen d r ≡ got p rest → (bs ≡ (c .write (p .0) ++ d (p .0) .write (p .1)) ++ rest) × ((c .ok (p .0) && d (p .0) .ok (p .1)) ≡ true)
+  and-back bs b (stuck n r) e p rest h = absurd (let z : _≡_ {A = ℕ} 0 1 = cc in omega arith)
+  and-back bs b (got x r1) e p rest h = both-back bs r1 x b (lc .back bs x r1 b e) (d x .read r1) refl p rest h
+
+  pub both-lawful : Lawful (both c d) lo hi
+  both-lawful =
+      record {
+        there = λ p rest h o. both-there (p .0) (p .1) rest h o;
+        over = λ p rest h o. both-over (p .0) (p .1) rest h o;
+        back = λ bs p rest b h. and-back bs b (c .read bs) refl p rest h;
+      }
+
+module _ {A : Type 0} (f : List A → Item A) (t : ℕ) (l : (before : List A) → ItemLaws (f before)) (same : (before : List A) → f before .tag ≡ t) where
+  past : (before : List A) (rest : List ℕ) → Over (suc t) rest → f before .look rest ≡ none
+  past before rest o = l before .other rest (subst (λ (k : ℕ). Over (suc k) rest) (sym (same before)) o)
+
+  scan-there : (n : ℕ) (before ys : List A) (rest : List ℕ) → length ys ≤ n → allFine f before ys ≡ true → Over (suc t) rest → scan f n before (texts f before ys ++ rest) ≡ got (before ++ ys) rest
+  unfolding scan texts allFine
+  scan-there zero before [] rest h a o = rw (append-nil before)
+  scan-there (suc n) before [] rest h a o = rw (past before rest o, append-nil before)
+  scan-there zero before (x ∷ ys) rest h a o = absurd (omega arith)
+  scan-there (suc n) before (x ∷ ys) rest h a o =
+      let hx : f before .fine x ≡ true = and-left (f before .fine x) (allFine f (before ++ (x ∷ [])) ys) a in
+      let hy : allFine f (before ++ (x ∷ [])) ys ≡ true = and-right (f before .fine x) (allFine f (before ++ (x ∷ [])) ys) a in
+      let r = texts f (before ++ (x ∷ [])) ys ++ rest in
+      rw (append-assoc (f before .text x) (texts f (before ++ (x ∷ [])) ys) rest, l before .there x r hx, l before .after x r hx, scan-there n (before ++ (x ∷ [])) ys rest (omega arith) hy o, append-snoc before x ys)
+
+  fields-over : (before ys : List A) (rest : List ℕ) → Over (suc t) rest → Over t (texts f before ys ++ rest)
+  unfolding texts
+  fields-over before [] rest o = over-le (omega arith) rest o
+  fields-over before (x ∷ ys) rest o =
+      rw (append-assoc (f before .text x) (texts f (before ++ (x ∷ [])) ys) rest)
+      (subst (λ (k : ℕ). Over k (f before .text x ++ (texts f (before ++ (x ∷ [])) ys ++ rest))) (same before) (l before .over x (texts f (before ++ (x ∷ [])) ys ++ rest)))
+
+  -- what a scan adds to what was read before
+  pub record Added (n : ℕ) (before : List A) (bs : List ℕ) (all : List A) (rest : List ℕ) : Type 0 where
+    pub new : List A
+    pub all-is : all ≡ before ++ new
+    pub few : length new ≤ n
+    pub fine : allFine f before new ≡ true
+    pub is : bs ≡ texts f before new ++ rest
+
+  none-added : (n : ℕ) (before : List A) (bs : List ℕ) (all : List A) (rest : List ℕ) → got before bs ≡ got all rest → Added n before bs all rest
+  unfolding texts allFine
+  none-added n before bs all rest h =
+      let p : before ≡ all = cc in
+      let q : bs ≡ rest = cc in
+      record { new = []; all-is = sym p ∙ sym (append-nil before); few = omega arith; fine = refl; is = q }
+
+  step-back : (n : ℕ) (before : List A) (bs : List ℕ) (all : List A) (rest : List ℕ) → Bytes bs
+      → ((x : A) → scan f n (before ++ (x ∷ [])) (drop (f before .size x) bs) ≡ got all rest → Added n (before ++ (x ∷ [])) (drop (f before .size x) bs) all rest)
+      → (o : Option A) → f before .look bs ≡ o → more before bs (λ a. scan f n (before ++ (a ∷ [])) (drop (f before .size a) bs)) o ≡ got all rest → Added (suc n) before bs all rest
+  unfolding texts allFine
+  step-back n before bs all rest b ih none e h = none-added (suc n) before bs all rest h
+  step-back n before bs all rest b ih (some x) e h =
+      let i = ih x h in
+      let k = l before .back bs x b e in
+      record {
+        new = x ∷ i .new;
+        all-is = i .all-is ∙ append-snoc before x (i .new);
+        few = omega (arith, i .few);
+        fine = rw (k .1) (i .fine);
+        is = k .0 ∙ ap (λ (m : List ℕ). f before .text x ++ m) (i .is) ∙ sym (append-assoc (f before .text x) (texts f (before ++ (x ∷ [])) (i .new)) rest);
+      }
+
+  scan-back : (n : ℕ) (before : List A) (bs : List ℕ) (all : List A) (rest : List ℕ) → Bytes bs → scan f n before bs ≡ got all rest → Added n before bs all rest
+  unfolding scan
+  scan-back zero before bs all rest b h = none-added zero before bs all rest h
+  scan-back (suc n) before bs all rest b h =
+      step-back n before bs all rest b (λ x k. scan-back n (before ++ (x ∷ [])) (drop (f before .size x) bs) all rest (bytes-drop (f before .size x) bs b) k) (f before .look bs) refl h
+
+  many-back : (n : ℕ) (bs : List ℕ) (all : List A) (rest : List ℕ) → Added n [] bs all rest → (bs ≡ texts f [] all ++ rest) × ((leb (length all) n && allFine f [] all) ≡ true)
+  many-back n bs all rest a = rw (a .all-is, le-leb (length (a .new)) n (a .few)) (a .is, a .fine)
+
+  pub many-lawful : (n : ℕ) → Lawful (many f n) t (suc t)
+  many-lawful n =
+      record {
+        there = λ a rest h o. scan-there n [] a rest (leb-true _ _ (and-left (leb (length a) n) (allFine f [] a) h)) (and-right (leb (length a) n) (allFine f [] a) h) o;
+        over = λ a rest h o. fields-over [] a rest o;
+        back = λ bs a rest b h. many-back n bs a rest (scan-back n [] bs a rest b h);
+      }
+
+pub widen : {A : Type 0} (c : Codec A) (lo lo' hi hi' : ℕ) → lo' ≤ lo → hi ≤ hi' → Lawful c lo hi → Lawful c lo' hi'
+widen c lo lo' hi hi' p q l =
+    record {
+      there = λ a rest h o. l .there a rest h (over-le q rest o);
+      over = λ a rest h o. over-le p (c .write a ++ rest) (l .over a rest h (over-le q rest o));
+      back = l .back;
+    }

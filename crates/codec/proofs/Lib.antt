@@ -1,0 +1,11 @@
+-- Laws on numbers, fields, formats and buffers.
+pub mod Numbers
+pub mod Complement
+pub mod Values
+pub mod Items
+pub mod Formats
+pub mod Places
+pub mod Positions
+pub mod Lengths
+pub mod Buffers
+pub mod Leaves

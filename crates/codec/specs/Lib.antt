@@ -1,0 +1,6 @@
+-- Tagged fields: numbers, fields, formats made of them, and what is written into a buffer.
+pub mod Numbers
+pub mod Fields
+pub mod Format
+pub mod Buffers
+pub mod Leaves

@@ -1,0 +1,2 @@
+-- Laws on text and on decimals.
+pub mod Laws

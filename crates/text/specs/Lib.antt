@@ -1,0 +1,2 @@
+-- Text by value, and numbers in decimal.
+pub mod Text
