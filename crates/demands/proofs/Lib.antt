@@ -4,3 +4,4 @@ pub mod Standing
 pub mod Slots
 pub mod Demand3
 pub mod Figures
+pub mod Returns

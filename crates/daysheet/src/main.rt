@@ -1,0 +1,17 @@
+// Reads one yearly return on standard input and prints its year, the MW-minutes lost in the year and after its end, and
+// the assessed revenue; or `refused ` and the number. Document 01, "The yearly return".
+use libc::STDIN_FILENO;
+use libc::STDOUT_FILENO;
+use printout::print_return;
+
+// One byte more than the longest return is enough to refuse it.
+const BYTES: usize = 8_193;
+
+fn main() {
+    let mut space = [0u8; BYTES];
+    let n = io::read_full(STDIN_FILENO, &mut space);
+    let sheet = print_return(&space[..n]);
+    let text = sheet.bytes;
+    let length = sheet.length;
+    io::write_all(STDOUT_FILENO, &text[..length]);
+}

@@ -1,0 +1,3 @@
+-- The yearly return: its format, and what reading and writing give.
+pub mod Form
+pub mod Return

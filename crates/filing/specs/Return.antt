@@ -1,0 +1,136 @@
+-- What reading and writing a return give: document 01, "The yearly return" and "Numbers a call can give instead".
+use mathlib.Core.Bool.{Bool, true, false, cond, not, _&&_}
+use mathlib.Core.List.{List, [], _∷_, _++_}
+use Prim.Native.Nat.{ℕ, _-_}
+use lib.Dec.{leb, ltb, eqb}
+use lib.ListN.{length, take, drop, replicate}
+use Rattle.lists.specs.Lists.{all}
+use Rattle.refusals.specs.Refusals.{Rows, accepted}
+use Rattle.refusals.specs.declared.Refusal.the-variants.{BrokenLog, BadYear, Malformed, NoRoom}
+use Rattle.refusals.specs.declared.Answer.the-variants.{Refused}
+use Rattle.outage.specs.declared.Log.{Log}
+use Rattle.outage.specs.Log.{lastRegimeEnd, validLog, live, holding}
+use Rattle.year.specs.declared.Line.{Line}
+use Rattle.year.specs.declared.Year.{Year}
+use Rattle.year.specs.Year.{freshYear, goodYearRecord, lineSlots, zeroLine}
+use Rattle.codec.specs.Format.{Res, got, stuck}
+use Rattle.filing.specs.declared.Return.{Return}
+use Rattle.filing.specs.Form.{Parts, form, startsIn}
+pub use Rattle.filing.specs.Form.{leftOut, isLeftOut}
+
+-- ---- a year and the parts of its return
+-- "Line slots past the count are zero."
+abbrev pub padded : List Line → List Line
+padded ls = ls ++ replicate (lineSlots - length ls) zeroLine
+
+abbrev pub yearOf : Parts → Year
+yearOf p = record {
+  number = p .0;
+  pppi = p .1 .0;
+  rate = p .1 .1 .0;
+  aic = p .1 .1 .1 .0;
+  pyc = p .1 .1 .1 .1 .0 .0;
+  pyf = p .1 .1 .1 .1 .0 .1;
+  lines = padded (p .1 .1 .1 .1 .1 .0);
+  «line_count» = length (p .1 .1 .1 .1 .1 .0);
+  exceptional = eqb (p .1 .1 .1 .1 .1 .1 .1 .0) 1;
+  within = p .1 .1 .1 .1 .1 .1 .1 .1;
+  log = holding lastRegimeEnd (p .1 .1 .1 .1 .1 .1 .0);
+}
+
+abbrev pub partsOf : Year → Parts
+partsOf y = (
+  y .number,
+  (
+    y .pppi,
+    (
+      y .rate,
+      (
+        y .aic,
+        (
+          (y .pyc, y .pyf),
+          (
+            take (y .«line_count») (y .lines),
+            (
+              live (y .log),
+              (
+                cond (y .exceptional) 1 0,
+                y .within,
+              ),
+            ),
+          ),
+        ),
+      ),
+    ),
+  ),
+)
+
+-- ---- reading
+-- "At most 8,192 bytes."
+abbrev pub mostBytes : ℕ
+mostBytes = 8192
+
+-- a year, or the place of a refusal
+pub data Reading : Type 0 where
+  whole : Year → Reading
+  refused : ℕ → Reading
+
+-- "Refused at the first byte of the first field" that cannot be taken where it stands, or at the end
+abbrev pub finish : ℕ → Res Parts → Reading
+finish n (got p []) = whole (yearOf p)
+finish n (got p (x ∷ rest)) = refused (n - length (x ∷ rest))
+finish n (stuck why rest) = refused (n - length rest)
+
+-- "A longer return is refused at place 8,192 before reading."
+unfoldable pub readingOf : List ℕ → Reading
+readingOf bs = cond (leb (length bs) mostBytes) (finish (length bs) (form .read bs)) (refused mostBytes)
+
+abbrev pub isRefused : Reading → Bool
+isRefused (whole y) = false
+isRefused (refused place) = true
+
+abbrev pub placeIn : Reading → ℕ
+placeIn (whole y) = 0
+placeIn (refused place) = place
+
+-- "a refused reading gives a fresh year"
+abbrev pub yearIn : Reading → Year
+yearIn (whole y) = y
+yearIn (refused place) = freshYear
+
+abbrev pub readRows : List ℕ → Rows
+readRows bs = (Malformed, isRefused (readingOf bs)) ∷ []
+
+abbrev pub readPlace : List ℕ → ℕ
+readPlace bs = placeIn (readingOf bs)
+
+abbrev pub readYear : List ℕ → Year
+readYear bs = yearIn (readingOf bs)
+
+-- a refused reading as the call gives it
+abbrev pub refusedAt : ℕ → Return
+refusedAt place = record { answer = Refused Malformed; place = place; year = freshYear }
+
+-- ---- writing
+-- 9: all of the year but its log in range, no "start outside it" nor "a regime end other than 13,632,480"
+abbrev pub fileable : Year → Bool
+fileable y = goodYearRecord y && (eqb (y .log .«regime_end») lastRegimeEnd && all (startsIn (y .number)) (live (y .log)))
+
+-- a valid year, that is one that may be written
+abbrev pub validYear : Year → Bool
+validYear y = validLog (y .log) && fileable y
+
+-- the bytes of its return
+unfoldable pub returnOf : Year → List ℕ
+returnOf y = form .write (partsOf y)
+
+abbrev pub writeRows : Year → ℕ → Rows
+writeRows y room =
+    (BrokenLog, not (validLog (y .log))) ∷ (BadYear, not (fileable y)) ∷ (NoRoom, ltb room (length (returnOf y))) ∷ []
+
+abbrev pub writtenLength : Year → ℕ → ℕ
+writtenLength y room = cond (accepted (writeRows y room)) (length (returnOf y)) 0
+
+-- "Bytes past a written return are untouched", and all of them beside a refusal
+abbrev pub writtenBuffer : Year → List ℕ → List ℕ
+writtenBuffer y out = cond (accepted (writeRows y (length out))) (returnOf y ++ drop (length (returnOf y)) out) out

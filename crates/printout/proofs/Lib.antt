@@ -1,0 +1,3 @@
+-- Laws on what is printed.
+pub mod Lines
+pub mod Sheets

@@ -1,0 +1,78 @@
+use mathlib.Core.Path.{_≡_, _∙_, ap}
+use mathlib.Core.List.{[]}
+use Prim.Native.Nat.{ℕ}
+use lib.IntN.{ℤ}
+use Rattle.money.proofs.Pounds.{wire}
+use Rattle.calendar.specs.Years.{yearStart, yearEnd}
+use Rattle.outage.specs.Log.{lastRegimeEnd}
+use Rattle.outage.specs.Calls.{lostOf}
+use Rattle.text.specs.Text.{pushed, textOf}
+use Rattle.printout.specs.Printout.{lostInYear, lostAfter, sheetOf}
+use Rattle.printout.proofs.Sheets.{first-is, end-is, lost-is, after-is}
+use borrow.Author.Needs.{needs}
+use Rattle.printout.proofs.sheet.Statement.{statement}
+use Rattle.printout.proofs.sheet.Tie as tie
+use Rattle.printout.proofs.sheet.Reads as reads
+use Rattle.printout.proofs.sheet.Lts as lts
+use Rattle.calendar.proofs.YearMinutes.end_minute.Reads as end-minute-reads
+use Rattle.calendar.proofs.YearMinutes.first_minute.Reads as first-minute-reads
+use Rattle.calendar.proofs.year_minutes.Reads as year-minutes-reads
+use Rattle.printout.proofs.lines_of.Reads as lines-of-reads
+use Rattle.printout.proofs.lost_between.Reads as lost-between-reads
+
+-- src/lib.rt:77:9
+year-minutes-requires : tie.Need-year-minutes-requires
+year-minutes-requires c κs = search needs
+
+-- src/lib.rt:78:9
+first-minute-requires : tie.Need-first-minute-requires
+first-minute-requires c κs = search needs
+
+-- src/lib.rt:79:9
+end-minute-requires : tie.Need-end-minute-requires
+end-minute-requires c κs = search needs
+
+-- src/lib.rt:80:9
+lost-between-requires : tie.Need-lost-between-requires
+lost-between-requires c κs = search needs
+
+-- src/lib.rt:81:9
+lost-between-requires-2 : tie.Need-lost-between-requires-2
+lost-between-requires-2 c κs = search needs
+
+-- src/lib.rt:82:5
+lines-of-requires : tie.Need-lines-of-requires
+lines-of-requires c κs = search needs
+
+-- src/lib.rt:72:1
+returns : tie.Need-returns
+returns c =
+    let s = c .before .before .before .before .before .before .before in
+    let y = s .args .y in
+    let v = s .pre in
+    let figures = c .before .before .before .before .before .year-minutes .ensures in
+    let first : c .before .before .before .before .first-minute .result ≡ yearStart (y .number) = c .before .before .before .before .first-minute .ensures ∙ figures .1 ∙ first-is y v in
+    let end : c .before .before .before .end-minute .result ≡ yearEnd (y .number) lastRegimeEnd = c .before .before .before .end-minute .ensures ∙ figures .2 ∙ end-is y v in
+    let lost : c .before .before .lost-between .result ≡ lostInYear y =
+    c .before .before .lost-between .ensures
+    ∙ ap (λ (a : ℕ). lostOf (y .log) a (c .before .before .before .end-minute .result)) first
+    ∙ ap (lostOf (y .log) (yearStart (y .number))) end
+    ∙ lost-is y v in
+    let carried : c .before .lost-between2 .result ≡ lostAfter y = c .before .lost-between2 .ensures ∙ ap (λ (a : ℕ). lostOf (y .log) a lastRegimeEnd) end ∙ after-is y v in
+    let z = s .args .pounds in
+    c .lines-of .ensures
+    ∙ ap (λ (x : ℤ). pushed (textOf []) (sheetOf (y .number) (c .before .before .lost-between .result) (c .before .lost-between2 .result) x)) (wire z (s .fits .pounds .sfits))
+    ∙ ap (λ (n : ℕ). pushed (textOf []) (sheetOf (y .number) n (c .before .lost-between2 .result) z)) lost
+    ∙ ap (λ (n : ℕ). pushed (textOf []) (sheetOf (y .number) (lostInYear y) n z)) carried
+
+pub sheet-spec : {M : Type 1} → statement M
+sheet-spec =
+    tie.close
+    (tie.spec
+    year-minutes-requires
+    first-minute-requires
+    end-minute-requires
+    lost-between-requires
+    lost-between-requires-2
+    lines-of-requires
+    returns)

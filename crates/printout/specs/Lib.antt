@@ -1,0 +1,2 @@
+-- What `daysheet` prints.
+pub mod Printout

@@ -1,0 +1,55 @@
+use mir.Syntax.{w64}
+use mir.Val.{SFits}
+use mir.ValLaws.{toZ-ofZ}
+use Rattle.filing.specs.Form.{factors, lines, outages, mark, within}
+use Rattle.reading.proofs.Whole.{both-read}
+use borrow.Author.Needs.{needs}
+use Rattle.reading.proofs.body_from.Statement.{statement}
+use Rattle.reading.proofs.body_from.Tie as tie
+
+factors-from-requires : tie.Need-factors-from-requires
+factors-from-requires c κs = search needs
+
+lines-from-requires : tie.Need-lines-from-requires
+lines-from-requires c κs = search needs
+
+outages-from-requires : tie.Need-outages-from-requires
+outages-from-requires c κs = search needs
+
+mark-from-requires : tie.Need-mark-from-requires
+mark-from-requires c κs = search needs
+
+within-from-requires : tie.Need-within-from-requires
+within-from-requires c κs = search needs
+
+returns : tie.Need-returns
+returns c =
+    let w = c .before .before .before in
+    let m = w .before in
+    let o = m .before in
+    let l = o .before in
+    let f = l .before in
+    let number = f .before .before .args .year in
+    let x : SFits w64 (w .within-from .result .within) = search needs in
+    rw (toZ-ofZ w64 (w .within-from .result .within) x)
+    (record {
+      read = l .lines-from .ensures .read;
+      logged = o .outages-from .ensures .read;
+      lined = l .lines-from .ensures .held;
+      counted = l .lines-from .ensures .counted;
+      held = o .outages-from .ensures .held;
+      at = both-read (factors number) _ (f .factors-from .ensures)
+          (both-read lines _ (l .lines-from .ensures .at)
+          (both-read (outages number) _ (o .outages-from .ensures .at) (both-read mark (λ m. within) (m .mark-from .ensures) (w .within-from .ensures))));
+    })
+
+pub body-from-spec : {M : Type 1} → statement M
+body-from-spec =
+    tie.close
+    (tie.spec
+    factors-from-requires
+    lines-from-requires
+    outages-from-requires
+    mark-from-requires
+    within-from-requires
+    returns)

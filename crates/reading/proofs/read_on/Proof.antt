@@ -1,0 +1,32 @@
+use mir.Syntax.{w64}
+use mir.Val.{SFits}
+use mir.ValLaws.{toZ-ofZ}
+use Rattle.reading.proofs.Whole.{left-over, none-left, gives-refused, gives-whole}
+use borrow.Author.Needs.{needs}
+use Rattle.reading.proofs.read_on.Statement.{statement}
+use Rattle.reading.proofs.read_on.Tie as tie
+
+body-from-requires : tie.Need-body-from-requires
+body-from-requires c κs = search needs
+
+refused-requires : tie.Need-refused-requires
+refused-requires c κs = search needs
+
+returns : tie.Need-returns
+returns c =
+    let s = c .before .before .before .before .before in
+    let b = c .before .before .before .body-from in
+    gives-refused (s .args .s .now) (b .result .next) (c .refused .result) (c .refused .ensures)
+    (left-over (s .args .s .now) (s .pre .0) (s .pre .1) (b .ensures) (c .before .if1 .taken))
+
+returns-2 : tie.Need-returns-2
+returns-2 c =
+    let s = c .before .before .before .before .before .before .before in
+    let b = c .before .before .before .before .before .body-from in
+    let x : SFits w64 (b .result .within) = search needs in
+    rw (toZ-ofZ w64 (b .result .within) x)
+    (gives-whole (s .args .s .now) _
+    (none-left (s .args .s .now) (s .pre .0) (s .pre .1) (b .ensures) (c .before .before .before .if1 .left)))
+
+pub read-on-spec : {M : Type 1} → statement M
+read-on-spec = tie.close (tie.spec body-from-requires refused-requires returns returns-2)

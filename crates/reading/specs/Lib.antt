@@ -1,0 +1,2 @@
+-- The steps of reading a return.
+pub mod Steps

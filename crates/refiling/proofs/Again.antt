@@ -1,0 +1,42 @@
+-- What is read is written again as it was. Assumes nothing.
+use mathlib.Core.Path.{_≡_, refl, sym, ap, _∙_}
+use mathlib.Core.Bool.{Bool, true, false, cond}
+use mathlib.Core.List.{List, [], _∷_}
+use Prim.Native.Nat.{ℕ}
+use native.Mathlib.Nat.{not-suc-le-zero}
+use native.Mathlib.Omega.{arith}
+use lib.ListN.{length}
+use Rattle.lists.proofs.Tests.{and-left, and-right}
+use Rattle.refusals.specs.declared.Refusal.{Refusal}
+use Rattle.refusals.specs.Refusals.{lowest, numberOf}
+use Rattle.refusals.proofs.Laws.{never-zero}
+use Rattle.outage.specs.Log.{validLog}
+use Rattle.year.specs.declared.Year.{Year}
+use Rattle.codec.specs.Numbers.{Bytes}
+use Rattle.filing.specs.Return.{Reading, isRefused, readingOf, readRows, readYear, fileable, validYear, returnOf}
+use Rattle.writing.specs.declared.Written.{Written}
+use Rattle.writing.specs.declared.Written.the-variants.{Refused}
+use Rattle.writing.proofs.Only.{WriteGives}
+use Rattle.round_trip.proofs.RoundTrip.{accepted-whole, read-written}
+use Rattle.refiling.proofs.Only.{RefileGives}
+
+module _ (bs out : List ℕ) where
+  -- a refused reading
+  pub refused-again : (why : Refusal) → numberOf why ≡ lowest (readRows bs) → RefileGives bs out (Refused why) out
+  refused-again why e = by (isRefused (readingOf bs)) refl e
+    where
+      by : (t : Bool) → isRefused (readingOf bs) ≡ t → _≡_ {A = ℕ} (numberOf why) (cond t 13 0) → RefileGives bs out (Refused why) out
+      by true s e = rw s (e, refl, refl)
+      by false s e = absurd (not-suc-le-zero {n = 0} (omega (arith, never-zero why)))
+
+  -- a year that was read is written as the bytes that it was read from
+  pub written-again : Bytes bs → lowest (readRows bs) ≡ 0 → (y : Year) → y ≡ readYear bs → (r : Written) {after : List ℕ} → WriteGives y out r after → RefileGives bs out r after
+  written-again b e y is r g =
+      let whole = accepted-whole bs e in
+      let k = read-written bs (readYear bs) b whole in
+      let read : isRefused (readingOf bs) ≡ false = ap isRefused whole in
+      let valid : validYear y ≡ true = ap validYear is ∙ k .1 in
+      let sound : validLog (y .log) ≡ true = and-left (validLog (y .log)) (fileable y) valid in
+      let good : fileable y ≡ true = and-right (validLog (y .log)) (fileable y) valid in
+      let bytes : returnOf y ≡ bs = ap returnOf is ∙ k .0 in
+      rw read (rw (sound, good, bytes) at g)

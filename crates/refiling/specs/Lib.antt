@@ -1,0 +1,2 @@
+-- A return read and written again.
+pub mod Refiled

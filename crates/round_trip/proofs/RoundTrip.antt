@@ -1,0 +1,118 @@
+-- Demand 2: "A return that is read and written again gives its own bytes, and a valid year that is written reads back as
+-- itself." And 13 is given exactly where no valid year writes these bytes. Assumes nothing.
+use mathlib.Core.Path.{_≡_, refl, sym, ap, subst, _∙_}
+use mathlib.Core.Bool.{Bool, true, false, cond, _&&_, _||_}
+use mathlib.Core.List.{List, [], _∷_, _++_, append-nil}
+use Prim.Native.Nat.{ℕ, _+_, _-_, _*_, _≤_, _<_}
+use native.Mathlib.Nat.{not-suc-le-zero}
+use native.Mathlib.Omega.{arith}
+use borrow.Author.Tests.{le-leb, leb-true}
+use lib.Dec.{leb, eqb}
+use lib.ListN.{length, length-append}
+use Rattle.refusals.specs.Refusals.{lowest}
+use Rattle.outage.specs.declared.Entry.{Entry}
+use Rattle.outage.specs.Log.{slots}
+use Rattle.year.specs.declared.Line.{Line}
+use Rattle.year.specs.declared.Year.{Year}
+use Rattle.year.specs.Year.{lineSlots}
+use Rattle.codec.specs.Numbers.{Bytes}
+use Rattle.codec.specs.Format.{fieldOf, unless, Res, got, stuck, texts}
+use Rattle.codec.proofs.Values.{num-laws}
+use Rattle.codec.proofs.Lengths.{field-length, unless-length, texts-length}
+use Rattle.filing.specs.Form.{yearValue, pppiValue, rateValue, aicValue, isLeftOut, factorsValue, lineValue, entryValue, markValue, isNone, withinValue, lineItem, entryItem, factors, mark, within, Parts, form}
+use Rattle.filing.specs.Return.{yearOf, partsOf, mostBytes, Reading, whole, refused, finish, readingOf, isRefused, yearIn, readRows, readYear, validYear, returnOf}
+use Rattle.round_trip.proofs.Lawful.{line-laws, entry-laws, factors-laws, within-laws, form-lawful}
+use Rattle.round_trip.proofs.Years.{Fine, fine, fine-made, year-fine, year-back, parts-valid, parts-back, or-second}
+
+-- ---- "The longest valid return has 6,077 bytes", the shortest 23
+pub record Long (p : Parts) : Type 0 where
+  pub most : length (form .write p) ≤ 6077
+  pub least : 23 ≤ length (form .write p)
+
+long : (p : Parts) → Fine p → Long p
+unfolding form
+long p f =
+    let c = p .1 .1 .1 .1 .0 in
+    let ls = p .1 .1 .1 .1 .1 .0 in
+    let es = p .1 .1 .1 .1 .1 .1 .0 in
+    let m = p .1 .1 .1 .1 .1 .1 .1 .0 in
+    let w = p .1 .1 .1 .1 .1 .1 .1 .1 in
+    let n1 : length (fieldOf 1 yearValue (p .0)) ≡ 4 = field-length 1 yearValue (num-laws 1 1 25 (omega arith)) (p .0) (f .year) in
+    let n2 : length (fieldOf 2 pppiValue (p .1 .0)) ≡ 7 = field-length 2 pppiValue (num-laws 4 5000 50000 (omega arith)) (p .1 .0) (f .pppi) in
+    let n3 : length (fieldOf 3 rateValue (p .1 .1 .0)) ≡ 7 = field-length 3 rateValue (num-laws 4 1 200000 (omega arith)) (p .1 .1 .0) (f .rate) in
+    let n4 : length (fieldOf 4 aicValue (p .1 .1 .1 .0)) ≡ 5 = field-length 4 aicValue (num-laws 2 0 20000 (omega arith)) (p .1 .1 .1 .0) (f .aic) in
+    let n5 : length (unless (isLeftOut (p .0) c) (fieldOf 5 (factorsValue (p .0)) c)) ≤ 7 =
+    unless-length (isLeftOut (p .0) c) (fieldOf 5 (factorsValue (p .0)) c) 7 (λ e. field-length 5 (factorsValue (p .0)) (factors-laws (p .0)) c (or-second (isLeftOut (p .0) c) _ (f .factored) e)) in
+    let n6 : length (texts lineItem [] ls) ≡ 13 * length ls = texts-length lineItem 13 (λ b l k. field-length 6 lineValue line-laws l k) [] ls (f .lined) in
+    let n7 : length (texts (entryItem (p .0)) [] es) ≡ 13 * length es =
+    texts-length (entryItem (p .0)) 13 (λ b e k. field-length 7 (entryValue (p .0) b) (entry-laws (p .0) b) e k) [] es (f .logged) in
+    let n8 : length (unless (eqb m 0) (fieldOf 8 markValue m)) ≤ 4 =
+    unless-length (eqb m 0) (fieldOf 8 markValue m) 4 (λ e. field-length 8 markValue (num-laws 1 1 1 (omega arith)) m (or-second (eqb m 0) _ (f .marked) e)) in
+    let n9 : length (unless (isNone w) (fieldOf 9 withinValue w)) ≤ 11 =
+    unless-length (isNone w) (fieldOf 9 withinValue w) 11 (λ e. field-length 9 withinValue within-laws w (or-second (isNone w) _ (f .paid) e)) in
+    record { most = simp length-append (omega (arith, f .few, f .fewer)); least = simp length-append (omega arith) }
+
+-- ---- a valid year, with its 64 line slots and 400 entry slots
+module _ (y : Year) (row : length (y .lines) ≡ lineSlots) (slotted : length (y .log .entries) ≡ slots) (v : validYear y ≡ true) where
+  pub fits : (length (returnOf y) ≤ 6077) × (23 ≤ length (returnOf y))
+  unfolding returnOf
+  fits = let n = long (partsOf y) (year-fine y v row slotted) in (n .most, n .least)
+
+  -- its bytes are read to the end
+  pub all-read : form .read (returnOf y) ≡ got (partsOf y) []
+  unfolding returnOf
+  all-read =
+      ap (form .read) (sym (append-nil (form .write (partsOf y)))) ∙ form-lawful .there (partsOf y) [] (fine-made (partsOf y) (year-fine y v row slotted)) tt
+
+  -- "a valid year that is written reads back as itself"
+  pub written-read : readingOf (returnOf y) ≡ whole y
+  unfolding readingOf
+  written-read =
+      rw (le-leb (length (returnOf y)) mostBytes (omega (arith, fits .0)), all-read) (ap whole (year-back y v row slotted))
+
+-- ---- a return that is read
+whole-not : (place : ℕ) (y : Year) → refused place ≡ whole y → ⊥
+whole-not place y e = let z : _≡_ {A = ℕ} 0 1 = cc in not-suc-le-zero {n = 0} (omega arith)
+
+same-year : (x y : Year) → whole x ≡ whole y → x ≡ y
+same-year x y e = cc
+
+-- what a reading to the end found
+pub record Found (bs : List ℕ) (y : Year) : Type 0 where
+  pub parts : Parts
+  pub read : form .read bs ≡ got parts []
+  pub year : yearOf parts ≡ y
+
+finish-says : (bs : List ℕ) (y : Year) (n : ℕ) (r : Res Parts) → form .read bs ≡ r → finish n r ≡ whole y → Found bs y
+finish-says bs y n (got p []) e h = record { parts = p; read = e; year = same-year (yearOf p) y h }
+finish-says bs y n (got p (x ∷ rest)) e h = absurd (whole-not (n - length (x ∷ rest)) y h)
+finish-says bs y n (stuck why rest) e h = absurd (whole-not (n - length rest) y h)
+
+pub found : (bs : List ℕ) (y : Year) → readingOf bs ≡ whole y → Found bs y
+unfolding readingOf
+found bs y h = by (leb (length bs) mostBytes) h
+  where
+    by : (t : Bool) → cond t (finish (length bs) (form .read bs)) (refused mostBytes) ≡ whole y → Found bs y
+    by true h = finish-says bs y (length bs) (form .read bs) refl h
+    by false h = absurd (whole-not mostBytes y h)
+
+-- "A return that is read and written again gives its own bytes": the year that is read is valid, and its bytes are those
+pub read-written : (bs : List ℕ) (y : Year) → Bytes bs → readingOf bs ≡ whole y → (returnOf y ≡ bs) × (validYear y ≡ true)
+unfolding returnOf
+read-written bs y b h =
+    let r = found bs y h in
+    let k = form-lawful .back bs (r .parts) [] b (r .read) in
+    let f = fine (r .parts) (k .1) in
+    let e : form .write (partsOf (yearOf (r .parts))) ≡ bs = ap (form .write) (parts-back (r .parts) f) ∙ sym (k .0 ∙ append-nil (form .write (r .parts))) in
+    (ap (λ (x : Year). form .write (partsOf x)) (sym (r .year)) ∙ e, ap validYear (sym (r .year)) ∙ parts-valid (r .parts) f)
+
+-- where no row applies the reading is of a year, and the year is valid
+pub accepted-whole : (bs : List ℕ) → lowest (readRows bs) ≡ 0 → readingOf bs ≡ whole (readYear bs)
+accepted-whole bs h = by (readingOf bs) h
+  where
+    by : (r : Reading) → _≡_ {A = ℕ} (cond (isRefused r) 13 0) 0 → r ≡ whole (yearIn r)
+    by (whole y) h = refl
+    by (refused place) h = absurd (not-suc-le-zero {n = 0} (omega arith))
+
+pub read-valid : (bs : List ℕ) → Bytes bs → lowest (readRows bs) ≡ 0 → validYear (readYear bs) ≡ true
+read-valid bs b h = read-written bs (readYear bs) b (accepted-whole bs h) .1

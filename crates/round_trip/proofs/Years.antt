@@ -1,0 +1,384 @@
+-- A valid year is one whose parts the format may write, and a year is made of its parts. Assumes nothing.
+use mathlib.Core.Path.{_≡_, refl, sym, ap, _∙_}
+use mathlib.Core.Bool.{Bool, true, false, cond, not, _&&_, _||_}
+use mathlib.Core.List.{List, [], _∷_, _++_, append-assoc, append-nil}
+use Prim.Native.Nat.{ℕ, zero, suc, _+_, _-_, _≤_, _<_}
+use native.Mathlib.Omega.{arith}
+use borrow.Author.Tests.{eqb-true, eq-eqb, leb-true, le-leb}
+use lib.Dec.{leb, eqb}
+use lib.IntN.{ℤ, pos, negsuc, natAbs}
+use lib.Signed.{nonNeg}
+use lib.ListN.{length, take, drop, replicate, length-append, length-drop, take-append-drop, length-replicate}
+use lib.Seq.{length-take-le, take-append-seam, drop-append-seam, append-snoc}
+use Rattle.lists.specs.Lists.{all}
+use Rattle.lists.proofs.Tests.{and-left, and-right, and-made, same-test}
+use Rattle.calendar.specs.Years.{goodYear}
+use Rattle.outage.specs.declared.Entry.{Entry}
+use Rattle.outage.specs.declared.Log.{Log}
+use Rattle.outage.specs.Log.{slots, lastRegimeEnd, goodRegimeEnd, goodEntry, validEntries, validLog, live, holding, zeroEntry}
+use Rattle.outage.proofs.Order.{Kept, kept-says, kept-made, follows, follows-valid, good-span, good-end, good-most}
+use Rattle.outage.proofs.Holding.{Valid, valid-says, live-length, holds, holding-live, holding-valid}
+use Rattle.year.specs.declared.Line.{Line}
+use Rattle.year.specs.declared.Year.{Year}
+use Rattle.year.specs.Year.{goodPppi, goodRate, goodAmount, goodFactors, eitherSign, goodLine, isZeroLine, goodLines, goodYearRecord, lineSlots, zeroLine}
+use Rattle.codec.specs.Format.{num, pair, allFine}
+use Rattle.filing.specs.Form.{yearValue, pppiValue, rateValue, aicValue, isLeftOut, factorsValue, lineLayout, lineValue, entryLayout, startsIn, mayFollow, entryValue, isNone, withinValue, lineItem, entryItem, factors, lines, outages, mark, within, Parts, form}
+use Rattle.filing.specs.Return.{padded, yearOf, partsOf, fileable, validYear}
+
+-- ---- the parts of what the format may write
+pub record Fine (p : Parts) : Type 0 where
+  pub year : yearValue .fine (p .0) ≡ true
+  pub pppi : pppiValue .fine (p .1 .0) ≡ true
+  pub rate : rateValue .fine (p .1 .1 .0) ≡ true
+  pub aic : aicValue .fine (p .1 .1 .1 .0) ≡ true
+  pub factored : factors (p .0) .ok (p .1 .1 .1 .1 .0) ≡ true
+  pub few : length (p .1 .1 .1 .1 .1 .0) ≤ lineSlots
+  pub lined : allFine lineItem [] (p .1 .1 .1 .1 .1 .0) ≡ true
+  pub fewer : length (p .1 .1 .1 .1 .1 .1 .0) ≤ slots
+  pub logged : allFine (entryItem (p .0)) [] (p .1 .1 .1 .1 .1 .1 .0) ≡ true
+  pub marked : mark .ok (p .1 .1 .1 .1 .1 .1 .1 .0) ≡ true
+  pub paid : within .ok (p .1 .1 .1 .1 .1 .1 .1 .1) ≡ true
+
+pub fine : (p : Parts) → form .ok p ≡ true → Fine p
+unfolding form
+fine p h =
+    let h1 = and-right (yearValue .fine (p .0)) _ h in
+    let h2 = and-right (pppiValue .fine (p .1 .0)) _ h1 in
+    let h3 = and-right (rateValue .fine (p .1 .1 .0)) _ h2 in
+    let h4 = and-right (aicValue .fine (p .1 .1 .1 .0)) _ h3 in
+    let h5 = and-right (factors (p .0) .ok (p .1 .1 .1 .1 .0)) _ h4 in
+    let h6 = and-right (lines .ok (p .1 .1 .1 .1 .1 .0)) _ h5 in
+    let h7 = and-right (outages (p .0) .ok (p .1 .1 .1 .1 .1 .1 .0)) _ h6 in
+    let l = and-left (lines .ok (p .1 .1 .1 .1 .1 .0)) _ h5 in
+    let o = and-left (outages (p .0) .ok (p .1 .1 .1 .1 .1 .1 .0)) _ h6 in
+    record {
+      year = and-left (yearValue .fine (p .0)) _ h;
+      pppi = and-left (pppiValue .fine (p .1 .0)) _ h1;
+      rate = and-left (rateValue .fine (p .1 .1 .0)) _ h2;
+      aic = and-left (aicValue .fine (p .1 .1 .1 .0)) _ h3;
+      factored = and-left (factors (p .0) .ok (p .1 .1 .1 .1 .0)) _ h4;
+      few = leb-true _ _ (and-left (leb (length (p .1 .1 .1 .1 .1 .0)) lineSlots) _ l);
+      lined = and-right (leb (length (p .1 .1 .1 .1 .1 .0)) lineSlots) _ l;
+      fewer = leb-true _ _ (and-left (leb (length (p .1 .1 .1 .1 .1 .1 .0)) slots) _ o);
+      logged = and-right (leb (length (p .1 .1 .1 .1 .1 .1 .0)) slots) _ o;
+      marked = and-left (mark .ok (p .1 .1 .1 .1 .1 .1 .1 .0)) _ h7;
+      paid = and-right (mark .ok (p .1 .1 .1 .1 .1 .1 .1 .0)) _ h7;
+    }
+
+pub fine-made : (p : Parts) → Fine p → form .ok p ≡ true
+unfolding form
+fine-made p f =
+    and-made (f .year) (and-made (f .pppi) (and-made (f .rate) (and-made (f .aic) (and-made (f .factored)
+    (and-made (and-made (le-leb _ _ (f .few)) (f .lined)) (and-made (and-made (le-leb _ _ (f .fewer)) (f .logged)) (and-made (f .marked) (f .paid))))))))
+
+-- ---- lines
+line-says : (l : Line) → goodLine l ≡ true → (l .kind ≤ 11) × ((l .currency ≤ 1) × (goodAmount (l .amount) ≡ true))
+line-says l g =
+    let k = leb 1 (l .kind) && leb (l .kind) 11 in
+    let c = leb (l .currency) 1 in
+    let s = eitherSign (l .kind) || nonNeg (l .amount) in
+    let r = and-right k (c && (goodAmount (l .amount) && s)) g in (
+      leb-true (l .kind) 11 (and-right (leb 1 (l .kind)) (leb (l .kind) 11) (and-left k (c && (goodAmount (l .amount) && s)) g)),
+      (
+        leb-true (l .currency) 1 (and-left c (goodAmount (l .amount) && s) r),
+        and-left (goodAmount (l .amount)) s (and-right c (goodAmount (l .amount) && s) r),
+      ),
+    )
+
+line-fine : (l : Line) → goodLine l ≡ true → lineValue .fine l ≡ true
+line-fine l g =
+    let s = line-says l g in
+    and-made
+    (and-made (and-made (le-leb 0 (l .kind) (omega arith)) (le-leb (l .kind) 255 (omega (arith, s .0))))
+    (and-made (and-made (le-leb 0 (l .currency) (omega arith)) (le-leb (l .currency) 255 (omega (arith, s .1 .0)))) (s .1 .1)))
+    g
+
+lines-fine : (before ls : List Line) → all goodLine ls ≡ true → allFine lineItem before ls ≡ true
+unfolding allFine
+lines-fine before [] g = refl
+lines-fine before (l ∷ ls) g =
+    and-made (line-fine l (and-left (goodLine l) (all goodLine ls) g)) (lines-fine (before ++ (l ∷ [])) ls (and-right (goodLine l) (all goodLine ls) g))
+
+lines-good : (before ls : List Line) → allFine lineItem before ls ≡ true → all goodLine ls ≡ true
+unfolding allFine
+lines-good before [] f = refl
+lines-good before (l ∷ ls) f =
+    and-made (and-right (lineLayout .fine l) (goodLine l) (and-left (lineValue .fine l) (allFine lineItem (before ++ (l ∷ [])) ls) f))
+    (lines-good (before ++ (l ∷ [])) ls (and-right (lineValue .fine l) (allFine lineItem (before ++ (l ∷ [])) ls) f))
+
+-- ---- outages
+-- the first of valid entries are valid
+follows-front : (re from : ℕ) (a b : List Entry) → follows re from (a ++ b) ≡ true → follows re from a ≡ true
+follows-front re from [] b f = refl
+follows-front re from (e ∷ a) b f =
+    let h = leb from (e .start) && goodEntry re e in
+    and-made (and-left h (follows re (e .end) (a ++ b)) f) (follows-front re (e .end) a b (and-right h (follows re (e .end) (a ++ b)) f))
+
+valid-front : (re : ℕ) (a b : List Entry) → validEntries re (a ++ b) ≡ true → validEntries re a ≡ true
+valid-front re a b v = sym (follows-valid re a) ∙ follows-front re 0 a b (follows-valid re (a ++ b) ∙ v)
+
+entry-fine : (e : Entry) → goodEntry lastRegimeEnd e ≡ true → entryLayout .fine e ≡ true
+entry-fine e g =
+    and-made (and-made (le-leb 0 (e .start) (omega arith)) (le-leb (e .start) 4294967295 (omega (arith, good-span lastRegimeEnd e g, good-end lastRegimeEnd e g))))
+    (and-made (and-made (le-leb 0 (e .end) (omega arith)) (le-leb (e .end) 4294967295 (omega (arith, good-end lastRegimeEnd e g))))
+    (and-made (le-leb 0 (e .mw) (omega arith)) (le-leb (e .mw) 65535 (omega (arith, good-most lastRegimeEnd e g)))))
+
+module _ (number : ℕ) where
+  entries-fine : (before es : List Entry) → all (startsIn number) es ≡ true → all (goodEntry lastRegimeEnd) es ≡ true → validEntries lastRegimeEnd (before ++ es) ≡ true → allFine (entryItem number) before es ≡ true
+  unfolding allFine
+  entries-fine before [] s g v = refl
+  entries-fine before (e ∷ es) s g v =
+      let w : validEntries lastRegimeEnd ((before ++ (e ∷ [])) ++ es) ≡ true = ap (validEntries lastRegimeEnd) (append-snoc before e es) ∙ v in
+      and-made
+      (and-made (entry-fine e (and-left (goodEntry lastRegimeEnd e) (all (goodEntry lastRegimeEnd) es) g))
+      (and-made (and-left (startsIn number e) (all (startsIn number) es) s) (valid-front lastRegimeEnd (before ++ (e ∷ [])) es w)))
+      (entries-fine (before ++ (e ∷ [])) es (and-right (startsIn number e) (all (startsIn number) es) s) (and-right (goodEntry lastRegimeEnd e) (all (goodEntry lastRegimeEnd) es) g) w)
+
+  entries-good : (before es : List Entry) → allFine (entryItem number) before es ≡ true → validEntries lastRegimeEnd before ≡ true → (all (startsIn number) es ≡ true) × (validEntries lastRegimeEnd (before ++ es) ≡ true)
+  unfolding allFine
+  entries-good before [] f v = (refl, ap (validEntries lastRegimeEnd) (append-nil before) ∙ v)
+  entries-good before (e ∷ es) f v =
+      let h = and-left (entryValue number before .fine e) (allFine (entryItem number) (before ++ (e ∷ [])) es) f in
+      let m = and-right (entryLayout .fine e) (mayFollow number before e) h in
+      let w = validEntries lastRegimeEnd (before ++ (e ∷ [])) in
+      let r = entries-good (before ++ (e ∷ [])) es (and-right (entryValue number before .fine e) (allFine (entryItem number) (before ++ (e ∷ [])) es) f) (and-right (startsIn number e) w m) in
+      (and-made (and-left (startsIn number e) w m) (r .0), ap (validEntries lastRegimeEnd) (sym (append-snoc before e es)) ∙ r .1)
+
+-- ---- the other parts
+either-way : (a b : Bool) → (a ≡ false → b ≡ true) → (a || b) ≡ true
+either-way true b f = refl
+either-way false b f = f refl
+
+left-or-right : (a b : Bool) {X : Type 0} → (a || b) ≡ true → (a ≡ true → X) → (b ≡ true → X) → X
+left-or-right true b h f g = f refl
+left-or-right false b h f g = g h
+
+pub or-second : (a b : Bool) → (a || b) ≡ true → a ≡ false → b ≡ true
+or-second true b h e = cc
+or-second false b h e = h
+
+factors-ok : (number pyc pyf : ℕ) → leb pyc 10000 ≡ true → leb pyf 10000 ≡ true → factors number .ok (pyc, pyf) ≡ true
+factors-ok number pyc pyf c f =
+    either-way (isLeftOut number (pyc, pyf)) (factorsValue number .fine (pyc, pyf))
+    (λ e. and-made (and-made (and-made (le-leb 0 pyc (omega arith)) c) (and-made (le-leb 0 pyf (omega arith)) f)) (ap not e))
+
+factors-small : (number : ℕ) (f : ℕ × ℕ) → factors number .ok f ≡ true → (leb (f .0) 10000 && leb (f .1) 10000) ≡ true
+factors-small number f h =
+    left-or-right (isLeftOut number f) (factorsValue number .fine f) h
+    (λ e.
+    let a : f .0 ≡ 10000 = eqb-true (f .0) 10000 (and-left (eqb (f .0) 10000) (eqb (f .1) 10000) e) in
+    let b : f .1 ≡ 10000 = eqb-true (f .1) 10000 (and-right (eqb (f .0) 10000) (eqb (f .1) 10000) e) in
+    and-made (le-leb (f .0) 10000 (omega arith)) (le-leb (f .1) 10000 (omega arith)))
+    (λ e.
+    let x = num 2 0 10000 in
+    let g = and-left (pair x x .fine f) (not (isLeftOut number f)) e in
+    and-made (and-right (leb 0 (f .0)) (leb (f .0) 10000) (and-left (x .fine (f .0)) (x .fine (f .1)) g))
+    (and-right (leb 0 (f .1)) (leb (f .1) 10000) (and-right (x .fine (f .0)) (x .fine (f .1)) g)))
+
+mark-ok : (b : Bool) → mark .ok (cond b 1 0) ≡ true
+mark-ok true = refl
+mark-ok false = refl
+
+mark-back : (b : Bool) → eqb (cond b 1 0) 1 ≡ b
+mark-back true = refl
+mark-back false = refl
+
+mark-there : (n : ℕ) → mark .ok n ≡ true → cond (eqb n 1) 1 0 ≡ n
+mark-there n h =
+    left-or-right (eqb n 0) (leb 1 n && leb n 1) h
+    (λ e. let z : n ≡ 0 = eqb-true n 0 e in rw z refl)
+    (λ e. let z : n ≡ 1 = omega (arith, leb-true 1 n (and-left (leb 1 n) (leb n 1) e), leb-true n 1 (and-right (leb 1 n) (leb n 1) e)) in rw z refl)
+
+within-ok : (z : ℤ) → goodAmount z ≡ true → within .ok z ≡ true
+within-ok z g = either-way (isNone z) (withinValue .fine z) (λ e. and-made g (ap not e))
+
+within-small : (z : ℤ) → within .ok z ≡ true → goodAmount z ≡ true
+within-small z h =
+    left-or-right (isNone z) (withinValue .fine z) h
+    (λ e. le-leb (natAbs z) 1000000000 (omega (arith, eqb-true (natAbs z) 0 e)))
+    (λ e. and-left (goodAmount z) (not (isNone z)) e)
+
+-- ---- the slots of the lines
+line-made : {k k′ c c′ : ℕ} {a a′ : ℤ} → k ≡ k′ → c ≡ c′ → a ≡ a′ → _≡_ {A = Line} (record { kind = k; currency = c; amount = a }) (record { kind = k′; currency = c′; amount = a′ })
+line-made p q r = cc
+
+pub none-is : (z : ℤ) → isNone z ≡ true → z ≡ pos 0
+none-is (pos k) h = ap pos (eqb-true k 0 h)
+none-is (negsuc k) h = absurd (omega (arith, eqb-true (suc k) 0 h))
+
+zero-line : (l : Line) → isZeroLine l ≡ true → l ≡ zeroLine
+zero-line l z =
+    let a = eqb (l .kind) 0 in
+    let b = eqb (l .currency) 0 in
+    let c = eqb (natAbs (l .amount)) 0 in
+    line-made (eqb-true (l .kind) 0 (and-left a (b && c) z)) (eqb-true (l .currency) 0 (and-left b c (and-right a (b && c) z)))
+    (none-is (l .amount) (and-right b c (and-right a (b && c) z)))
+
+zero-lines : (ls : List Line) → all isZeroLine ls ≡ true → ls ≡ replicate (length ls) zeroLine
+zero-lines [] z = refl
+zero-lines (l ∷ ls) z =
+    let p = zero-line l (and-left (isZeroLine l) (all isZeroLine ls) z) in
+    let q = zero-lines ls (and-right (isZeroLine l) (all isZeroLine ls) z) in
+    cc
+
+free-lines : (n : ℕ) → all isZeroLine (replicate n zeroLine) ≡ true
+free-lines zero = refl
+free-lines (suc n) = free-lines n
+
+-- ---- what a valid year is
+module _ (y : Year) (v : validYear y ≡ true) where
+  abbrev ranges : Bool
+  ranges = goodFactors (y .number) (y .pppi) (y .rate) (y .aic) (y .pyc) (y .pyf)
+
+  abbrev lined : Bool
+  lined = goodLines (y .lines) (y .«line_count»)
+
+  log-valid : validLog (y .log) ≡ true
+  log-valid = and-left (validLog (y .log)) (fileable y) v
+
+  filed : fileable y ≡ true
+  filed = and-right (validLog (y .log)) (fileable y) v
+
+  fits : (eqb (y .log .«regime_end») lastRegimeEnd && all (startsIn (y .number)) (live (y .log))) ≡ true
+  fits = and-right (goodYearRecord y) (eqb (y .log .«regime_end») lastRegimeEnd && all (startsIn (y .number)) (live (y .log))) filed
+
+  year-record : goodYearRecord y ≡ true
+  year-record = and-left (goodYearRecord y) (eqb (y .log .«regime_end») lastRegimeEnd && all (startsIn (y .number)) (live (y .log))) filed
+
+  to-end : y .log .«regime_end» ≡ lastRegimeEnd
+  to-end = eqb-true (y .log .«regime_end») lastRegimeEnd (and-left (eqb (y .log .«regime_end») lastRegimeEnd) (all (startsIn (y .number)) (live (y .log))) fits)
+
+  log-parts : Valid slots (y .log .entries) (y .log .count) (y .log .«regime_end»)
+  log-parts = valid-says slots (y .log .entries) (y .log .count) (y .log .«regime_end») log-valid
+
+  log-kept : Kept lastRegimeEnd (live (y .log))
+  log-kept = rw to-end at (log-parts .kept)
+
+  in-range : ranges ≡ true
+  in-range = and-left ranges (goodAmount (y .within) && lined) year-record
+
+  line-range : lined ≡ true
+  line-range = and-right (goodAmount (y .within)) lined (and-right ranges (goodAmount (y .within) && lined) year-record)
+
+  pub count-small : y .«line_count» ≤ lineSlots
+  count-small = leb-true (y .«line_count») lineSlots (and-left (leb (y .«line_count») lineSlots) _ line-range)
+
+  lines-so : (all goodLine (take (y .«line_count») (y .lines)) && all isZeroLine (drop (y .«line_count») (y .lines))) ≡ true
+  lines-so = and-right (leb (y .«line_count») lineSlots) _ line-range
+
+  module _ (row : length (y .lines) ≡ lineSlots) (slotted : length (y .log .entries) ≡ slots) where
+    taken : length (take (y .«line_count») (y .lines)) ≡ y .«line_count»
+    taken = length-take-le (y .«line_count») (y .lines) (omega (arith, count-small))
+
+    pub year-fine : Fine (partsOf y)
+    year-fine =
+        let a = goodYear (y .number) in
+        let b = goodPppi (y .pppi) in
+        let c = goodRate (y .rate) in
+        let d = leb (y .aic) 20000 in
+        let e = leb (y .pyc) 10000 in
+        let f = leb (y .pyf) 10000 in
+        let h1 = and-right a (b && (c && (d && (e && f)))) in-range in
+        let h2 = and-right b (c && (d && (e && f))) h1 in
+        let h3 = and-right c (d && (e && f)) h2 in
+        let h4 = and-right d (e && f) h3 in
+        record {
+          year = and-left a (b && (c && (d && (e && f)))) in-range;
+          pppi = and-left b (c && (d && (e && f))) h1;
+          rate = and-left c (d && (e && f)) h2;
+          aic = and-made (le-leb 0 (y .aic) (omega arith)) (and-left d (e && f) h3);
+          factored = factors-ok (y .number) (y .pyc) (y .pyf) (and-left e f h4) (and-right e f h4);
+          few = omega (arith, taken, count-small);
+          lined = lines-fine [] (take (y .«line_count») (y .lines)) (and-left (all goodLine (take (y .«line_count») (y .lines))) _ lines-so);
+          fewer = omega (arith, live-length (y .log) slotted log-valid, log-parts .room);
+          logged = entries-fine (y .number) [] (live (y .log)) (and-right (eqb (y .log .«regime_end») lastRegimeEnd) _ fits) (log-kept .good) (kept-made lastRegimeEnd (live (y .log)) log-kept);
+          marked = mark-ok (y .exceptional);
+          paid = within-ok (y .within) (and-left (goodAmount (y .within)) lined (and-right ranges (goodAmount (y .within) && lined) year-record));
+        }
+
+    row-is : padded (take (y .«line_count») (y .lines)) ≡ y .lines
+    row-is =
+        let ls = take (y .«line_count») (y .lines) in
+        let n : length (drop (y .«line_count») (y .lines)) ≡ lineSlots - length ls = length-drop (y .«line_count») (y .lines) ∙ omega (arith, taken, row) in
+        let z : drop (y .«line_count») (y .lines) ≡ replicate (lineSlots - length ls) zeroLine =
+        zero-lines (drop (y .«line_count») (y .lines)) (and-right (all goodLine (take (y .«line_count») (y .lines))) _ lines-so) ∙ ap (λ (k : ℕ). replicate k zeroLine) n in
+        ap (λ (r : List Line). ls ++ r) (sym z) ∙ take-append-drop (y .«line_count») (y .lines)
+
+    log-is : holding lastRegimeEnd (live (y .log)) ≡ y .log
+    log-is = ap (λ (re : ℕ). holding re (live (y .log))) (sym to-end) ∙ sym (holds (y .log) slotted log-valid)
+
+    -- a year is made of its parts
+    pub year-back : yearOf (partsOf y) ≡ y
+    year-back = λ i.
+        record {
+          number = y .number;
+          pppi = y .pppi;
+          rate = y .rate;
+          aic = y .aic;
+          pyc = y .pyc;
+          pyf = y .pyf;
+          lines = row-is i;
+          «line_count» = taken i;
+          exceptional = mark-back (y .exceptional) i;
+          within = y .within;
+          log = log-is i;
+        }
+
+-- ---- what the format may write is a valid year
+module _ (p : Parts) (f : Fine p) where
+  abbrev ls : List Line
+  ls = p .1 .1 .1 .1 .1 .0
+
+  abbrev es : List Entry
+  es = p .1 .1 .1 .1 .1 .1 .0
+
+  abbrev free : List Line
+  free = replicate (lineSlots - length ls) zeroLine
+
+  entered : (all (startsIn (p .0)) es ≡ true) × (validEntries lastRegimeEnd es ≡ true)
+  entered = entries-good (p .0) [] es (f .logged) refl
+
+  lines-made : goodLines (padded ls) (length ls) ≡ true
+  lines-made =
+      and-made (le-leb (length ls) lineSlots (f .few))
+      (and-made (ap (all goodLine) (take-append-seam ls free) ∙ lines-good [] ls (f .lined)) (ap (all isZeroLine) (drop-append-seam ls free) ∙ free-lines (lineSlots - length ls)))
+
+  pub parts-valid : validYear (yearOf p) ≡ true
+  parts-valid =
+      let k = kept-says lastRegimeEnd es (entered .1) in
+      let c = p .1 .1 .1 .1 .0 in
+      let s = factors-small (p .0) c (f .factored) in
+      and-made (holding-valid lastRegimeEnd es refl (f .fewer) k)
+      (and-made
+      (and-made
+      (and-made (f .year) (and-made (f .pppi) (and-made (f .rate) (and-made (and-right (leb 0 (p .1 .1 .1 .0)) (leb (p .1 .1 .1 .0) 20000) (f .aic)) s))))
+      (and-made (within-small (p .1 .1 .1 .1 .1 .1 .1 .1) (f .paid)) lines-made))
+      (and-made refl (ap (all (startsIn (p .0))) (holding-live lastRegimeEnd es) ∙ entered .0)))
+
+  -- its parts are those that it was made of
+  pub parts-back : partsOf (yearOf p) ≡ p
+  parts-back = λ i. (
+    p .0,
+    (
+      p .1 .0,
+      (
+        p .1 .1 .0,
+        (
+          p .1 .1 .1 .0,
+          (
+            p .1 .1 .1 .1 .0,
+            (
+              take-append-seam ls free i,
+              (
+                holding-live lastRegimeEnd es i,
+                (
+                  mark-there (p .1 .1 .1 .1 .1 .1 .1 .0) (f .marked) i,
+                  p .1 .1 .1 .1 .1 .1 .1 .1,
+                ),
+              ),
+            ),
+          ),
+        ),
+      ),
+    ),
+  )

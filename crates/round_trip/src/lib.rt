@@ -1,0 +1,2 @@
+// Reading and writing a return agree both ways, and a refused return is refused at its first wrong field. No code: the
+// theorems are in proofs/.

@@ -1,0 +1,148 @@
+-- How many bytes each part of a return has. Assumes nothing.
+use mathlib.Core.Path.{_≡_, refl, ap, ap₂, _∙_}
+use mathlib.Core.Bool.{Bool, true, false, cond, _&&_}
+use mathlib.Core.List.{List, [], _∷_, _++_, append-assoc}
+use Prim.Native.Nat.{ℕ, _+_, _*_, _≤_}
+use native.Mathlib.Omega.{arith}
+use borrow.Author.Tests.{leb-true}
+use lib.Dec.{leb}
+use lib.IntN.{ℤ}
+use lib.ListN.{length, take, drop, length-append}
+use lib.Seq.{length-take-le}
+use Rattle.lists.specs.Lists.{all}
+use Rattle.lists.proofs.Tests.{and-left, and-right}
+use Rattle.outage.specs.declared.Entry.{Entry}
+use Rattle.outage.specs.Log.{slots, live, validLog}
+use Rattle.outage.proofs.Holding.{valid-says}
+use Rattle.year.specs.declared.Line.{Line}
+use Rattle.year.specs.declared.Year.{Year}
+use Rattle.year.specs.Year.{goodAmount, goodFactors, goodLine, goodLines, goodYearRecord, isZeroLine, lineSlots}
+use Rattle.codec.specs.Numbers.{bytesOf}
+use Rattle.codec.specs.Fields.{head}
+use Rattle.codec.specs.Format.{fieldOf, texts, unless}
+use Rattle.codec.proofs.Numbers.{bytes-length}
+use Rattle.codec.proofs.Items.{length-head}
+use Rattle.codec.proofs.Lengths.{texts-size}
+use Rattle.filing.specs.Form.{factorsValue, markValue, withinValue, lineValue, entryLayout, entryItem, lineItem, factors, mark, within, form}
+use Rattle.filing.specs.Return.{fileable, returnOf, validYear}
+use Rattle.writing.specs.Written.{anyEntry, logFits, noEntries, noLines, requiredOf}
+
+-- a field of one number
+pub number-size : (tag n v : ℕ) → length (head tag n ++ bytesOf n v) ≡ 3 + n
+number-size tag n v = length-append (head tag n) (bytesOf n v) ∙ ap₂ (λ (a b : ℕ). a + b) (length-head tag n) (bytes-length n v)
+
+-- ---- the fields of a return
+pub line-size : (l : Line) → length (fieldOf 6 lineValue l) ≡ 13
+unfolding fieldOf
+line-size l = simp (length-append, length-head, bytes-length)
+
+pub entry-size : (e : Entry) → length (fieldOf 7 entryLayout e) ≡ 13
+unfolding fieldOf
+entry-size e = simp (length-append, length-head, bytes-length)
+
+pub factors-size : (number : ℕ) (f : ℕ × ℕ) → length (fieldOf 5 (factorsValue number) f) ≡ 7
+unfolding fieldOf
+factors-size number f = simp (length-append, length-head, bytes-length)
+
+mark-size : (n : ℕ) → length (fieldOf 8 markValue n) ≡ 4
+unfolding fieldOf
+mark-size n = number-size 8 1 n
+
+pub within-size : (z : ℤ) → length (fieldOf 9 withinValue z) ≡ 11
+unfolding fieldOf
+within-size z = simp (length-append, length-head, bytes-length)
+
+pub required-size : (y : Year) → length (requiredOf y) ≡ 23
+unfolding fieldOf
+required-size y = simp (length-append, length-head, bytes-length)
+
+-- ---- a field that may be left out
+pub none-size : {t : Bool} (bs : List ℕ) → t ≡ true → length (unless t bs) ≡ 0
+none-size bs e = rw e
+
+pub some-size : {t : Bool} (bs : List ℕ) → t ≡ false → length (unless t bs) ≡ length bs
+some-size bs e = rw e
+
+pub mark-in : {t : Bool} → t ≡ true → length (mark .write (cond t 1 0)) ≡ 4
+mark-in e = rw e (mark-size 1)
+
+pub mark-out : {t : Bool} → t ≡ false → length (mark .write (cond t 1 0)) ≡ 0
+mark-out e = rw e
+
+-- ---- a return is its required fields and the others
+entries-same : (number : ℕ) (before es : List Entry) → texts (entryItem number) before es ≡ texts anyEntry before es
+unfolding texts fieldOf
+entries-same number before [] = refl
+entries-same number before (e ∷ es) = ap (λ (bs : List ℕ). fieldOf 7 entryLayout e ++ bs) (entries-same number (before ++ (e ∷ [])) es)
+
+-- the bytes of each of the others
+module _ (y : Year) where
+  abbrev pub factored : List ℕ
+  factored = factors (y .number) .write (y .pyc, y .pyf)
+
+  abbrev pub lined : List ℕ
+  lined = texts lineItem noLines (take (y .«line_count») (y .lines))
+
+  abbrev pub logged : List ℕ
+  logged = texts anyEntry noEntries (live (y .log))
+
+  abbrev pub marked : List ℕ
+  marked = mark .write (cond (y .exceptional) 1 0)
+
+  abbrev pub paid : List ℕ
+  paid = within .write (y .within)
+
+  pub parts-of : returnOf y ≡ requiredOf y ++ (factored ++ (lined ++ (logged ++ (marked ++ paid))))
+  unfolding returnOf form
+  parts-of = rw (entries-same (y .number) [] (live (y .log))) (simp append-assoc)
+
+  -- the required fields fit where the return fits
+  pub required-fits : 23 ≤ length (returnOf y)
+  required-fits =
+      omega (arith, ap length parts-of ∙ length-append (requiredOf y) (factored ++ (lined ++ (logged ++ (marked ++ paid)))), required-size y)
+
+-- ---- a valid year has no more lines and outages than slots
+pub log-small : (y : Year) → validLog (y .log) ≡ true → y .log .count ≤ slots
+log-small y v = valid-says slots (y .log .entries) (y .log .count) (y .log .«regime_end») v .room
+
+module _ (y : Year) (valid : validYear y ≡ true) where
+  pub few-outages : y .log .count ≤ slots
+  few-outages = log-small y (and-left (validLog (y .log)) (fileable y) valid)
+
+  pub few-lines : y .«line_count» ≤ lineSlots
+  few-lines =
+      let ranged = goodFactors (y .number) (y .pppi) (y .rate) (y .aic) (y .pyc) (y .pyf) in
+      let paid = goodAmount (y .within) in
+      let lines = goodLines (y .lines) (y .«line_count») in
+      let slotted = all goodLine (take (y .«line_count») (y .lines)) && all isZeroLine (drop (y .«line_count») (y .lines)) in
+      leb-true (y .«line_count») lineSlots
+      (and-left (leb (y .«line_count») lineSlots) slotted
+      (and-right paid lines
+      (and-right ranged (paid && lines)
+      (and-left (goodYearRecord y) (logFits y)
+      (and-right (validLog (y .log)) (fileable y) valid)))))
+
+  module _ (l : length (y .lines) ≡ lineSlots) where
+    pub lines-size : length (lined y) ≡ 13 * y .«line_count»
+    lines-size =
+        texts-size lineItem 13 (λ before x. line-size x) noLines (take (y .«line_count») (y .lines))
+        ∙ ap (λ (n : ℕ). 13 * n) (length-take-le (y .«line_count») (y .lines) (omega (arith, few-lines)))
+
+  module _ (e : length (y .log .entries) ≡ slots) where
+    pub outages-size : length (logged y) ≡ 13 * y .log .count
+    outages-size =
+        texts-size anyEntry 13 (λ before x. entry-size x) noEntries (live (y .log))
+        ∙ ap (λ (n : ℕ). 13 * n) (length-take-le (y .log .count) (y .log .entries) (omega (arith, few-outages)))
+
+  -- how many bytes its return has
+  pub year-size : length (y .lines) ≡ lineSlots → length (y .log .entries) ≡ slots
+      → length (returnOf y) ≡ 23 + (length (factored y) + (13 * y .«line_count» + (13 * y .log .count + (length (marked y) + length (paid y)))))
+  year-size l e =
+      ap length (parts-of y)
+      ∙ length-append (requiredOf y) (factored y ++ (lined y ++ (logged y ++ (marked y ++ paid y))))
+      ∙ ap₂ (λ (m n : ℕ). m + n) (required-size y)
+      (length-append (factored y) (lined y ++ (logged y ++ (marked y ++ paid y)))
+      ∙ ap (λ (n : ℕ). length (factored y) + n)
+      (length-append (lined y) (logged y ++ (marked y ++ paid y))
+      ∙ ap₂ (λ (m n : ℕ). m + n) (lines-size l)
+      (length-append (logged y) (marked y ++ paid y) ∙ ap₂ (λ (m n : ℕ). m + n) (outages-size e) (length-append (marked y) (paid y)))))

@@ -1,0 +1,66 @@
+use mathlib.Core.Path.{_≡_, sym, ap, _∙_}
+use mathlib.Core.Bool.{false}
+use native.Mathlib.Omega.{arith}
+use borrow.Author.Needs.{needs}
+use borrow.Author.Tests.{eq-eqb, ne-eqb}
+use lib.IntN.{natAbs}
+use mir.Syntax.{w64}
+use mir.Val.{toZ, ofZ}
+use mir.ValLaws.{toZ-ofZ}
+use Rattle.codec.specs.Format.{fieldOf}
+use Rattle.filing.specs.Form.{withinValue, isNone}
+use Rattle.writing.proofs.Laying.{left-out, put-in, within-laid}
+use Rattle.writing.proofs.Sizes.{some-size, within-size}
+use Rattle.writing.proofs.fields.put_within.Statement.{statement}
+use Rattle.writing.proofs.fields.put_within.Tie as tie
+
+-- the adjustment, as it is read back, and its magnitude
+back : (c : tie.Start) → toZ w64 (ofZ w64 (c .args .paid)) ≡ c .args .paid
+back c = toZ-ofZ w64 (c .args .paid) (c .fits .paid)
+
+size : (c : tie.After-magnitude) → c .magnitude .result ≡ natAbs (c .before .before .args .paid)
+size c = c .magnitude .ensures ∙ ap natAbs (back (c .before .before))
+
+-- it is written
+written : (c : tie.Else1) → isNone (c .before .before .before .args .paid) ≡ false
+written c = ne-eqb _ _ (λ e. c .if1 .left (size (c .before) ∙ e))
+
+magnitude-requires : tie.Need-magnitude-requires
+magnitude-requires c κs = search needs
+
+returns : tie.Need-returns
+returns c =
+    let s = c .before .before .before in
+    left-out _ (s .args .out .now) (s .args .at) (eq-eqb _ _ (sym (size (c .before)) ∙ c .if1 .taken))
+
+unsigned-requires : tie.Need-unsigned-requires
+unsigned-requires c κs = search needs
+
+put-number-requires : tie.Need-put-number-requires
+put-number-requires c κs =
+    let e = c .before .before in
+    let s = e .before .before .before in
+    let z = s .args .paid in
+    (omega (arith, s .pre, some-size (fieldOf 9 withinValue z) (written e), within-size z), omega arith)
+
+same-length : tie.Need-same-length
+same-length c = search needs
+
+returns-2 : tie.Need-returns-2
+returns-2 c =
+    let p = c .before .before in
+    let u = p .before in
+    let e = u .before .before in
+    let s = e .before .before .before in
+    put-in (written e) (within-laid (s .args .paid) (u .unsigned .ensures ∙ ap (ofZ w64) (back s)) (p .put-number .ensures))
+
+pub put-within-spec : {M : Type 1} → statement M
+put-within-spec =
+    tie.close
+    (tie.spec
+    magnitude-requires
+    returns
+    unsigned-requires
+    put-number-requires
+    same-length
+    returns-2)

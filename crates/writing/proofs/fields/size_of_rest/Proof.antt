@@ -1,0 +1,73 @@
+use mathlib.Core.Path.{_≡_, sym, ap, _∙_}
+use mathlib.Core.Logic.{⊎-elim}
+use Prim.Native.Nat.{ℕ, _+_, _≤_}
+use native.Mathlib.Omega.{arith}
+use borrow.Author.Needs.{needs}
+use borrow.Author.Tests.{eq-eqb, ne-eqb, not-true, not-false}
+use lib.IntN.{natAbs}
+use lib.ListN.{length}
+use Rattle.money.proofs.Pounds.{wire}
+use Rattle.codec.specs.Format.{fieldOf}
+use Rattle.filing.specs.Form.{factorsValue, withinValue}
+use Rattle.writing.proofs.Sizes.{factored, marked, none-size, some-size, factors-size, mark-in, mark-out, within-size}
+use Rattle.writing.proofs.fields.size_of_rest.Statement.{statement}
+use Rattle.writing.proofs.fields.size_of_rest.Tie as tie
+
+-- ---- after each test, what is counted so far
+first : (c : tie.Joined1) → (c .if1 .n ≡ length (factored (c .before .before .args .y))) × (c .if1 .n ≤ 7)
+first c =
+    let a = c .before in
+    let y = a .before .args .y in
+    let f : ℕ × ℕ = (y .pyc, y .pyf) in
+    let bs = fieldOf 5 (factorsValue (y .number)) f in
+    ⊎-elim
+    (λ w. let e = some-size bs (sym (a .are-left-out .ensures) ∙ not-true _ (w .0 .taken)) ∙ factors-size (y .number) f in (omega (arith, w .1), omega (arith, w .1)))
+    (λ w. let e = none-size bs (sym (a .are-left-out .ensures) ∙ not-false _ (w .0 .left)) in (omega (arith, w .1), omega (arith, w .1)))
+    (c .if1 .came)
+
+second : (c : tie.Joined2) → (let y = c .before .before .before .args .y in (c .if2 .n ≡ length (factored y) + length (marked y)) × (c .if2 .n ≤ 11))
+second c =
+    let p = first (c .before) in
+    ⊎-elim
+    (λ w. let e = mark-in (w .0 .taken) in (omega (arith, w .2), omega (arith, w .2)))
+    (λ w. let e = mark-out (w .0 .left) in (omega (arith, w .1), omega (arith, w .1)))
+    (c .if2 .came)
+
+magnitude : (c : tie.After-magnitude) → c .magnitude .result ≡ natAbs (c .before .before .before .before .before .args .y .within)
+magnitude c = c .magnitude .ensures ∙ ap natAbs (wire (c .before .before .before .before .before .args .y .within) (c .before .struct-told .given .1 .1 .1 .1 .1 .1 .1 .1 .1 .0 .1))
+
+are-left-out-requires : tie.Need-are-left-out-requires
+are-left-out-requires c κs = search needs
+
+add-n : tie.Need-add-n
+add-n c = search needs
+
+add-n-2 : tie.Need-add-n-2
+add-n-2 c = omega (arith, first (c .before .before) .1)
+
+magnitude-requires : tie.Need-magnitude-requires
+magnitude-requires c κs = search needs
+
+add-n-3 : tie.Need-add-n-3
+add-n-3 c = omega (arith, second (c .before .before .before .before) .1)
+
+returns : tie.Need-returns
+returns c =
+    let m = c .before .before in
+    let z = m .before .before .before .before .before .args .y .within in
+    let p = second (m .before .before) in
+    let e = some-size (fieldOf 9 withinValue z) (ne-eqb _ _ (λ f. c .before .if3 .taken (magnitude m ∙ f))) ∙ within-size z in
+    (omega arith, omega arith)
+
+returns-2 : tie.Need-returns-2
+returns-2 c =
+    let m = c .before in
+    let z = m .before .before .before .before .before .args .y .within in
+    let p = second (m .before .before) in
+    let e = none-size (fieldOf 9 withinValue z) (eq-eqb _ _ (sym (magnitude m) ∙ c .if3 .left)) in
+    (omega arith, omega arith)
+
+pub size-of-rest-spec : {M : Type 1} → statement M
+size-of-rest-spec =
+    tie.close
+    (tie.spec are-left-out-requires add-n add-n-2 magnitude-requires add-n-3 returns returns-2)

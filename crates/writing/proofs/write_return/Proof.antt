@@ -1,0 +1,74 @@
+use mathlib.Core.Path.{_≡_, sym, ap, _∙_}
+use mathlib.Core.Bool.{true}
+use native.Mathlib.Omega.{arith}
+use borrow.Author.Needs.{needs}
+use Rattle.refusals.specs.declared.Refusal.the-variants.{NoRoom}
+use Rattle.refusals.specs.Refusals.{answerNumber}
+use Rattle.filing.specs.Return.{validYear}
+use Rattle.writing.specs.declared.Written.the-variants.{Refused}
+use Rattle.writing.proofs.Only.{WriteGives}
+use Rattle.writing.proofs.Filing.{filing-valid, gives-refused, gives-no-room, gives-length}
+use Rattle.writing.proofs.write_return.Statement.{statement}
+use Rattle.writing.proofs.write_return.Tie as tie
+
+-- the year may be written
+valid : (c : tie.After-enum-told) → validYear (c .before .before .before .before .args .y) ≡ true
+valid c =
+    let k = c .before .before in
+    filing-valid (k .before .before .args .y) (k .check-filing .result) (k .check-filing .ensures) (c .enum-told .given .1)
+
+-- where there is no room: 14, and the buffer as it was
+no-room : (c : tie.Then1) → (let a = c .before .before .before .before .before .before .args in WriteGives (a .y) (a .out .now) (Refused NoRoom) (a .out .now))
+no-room c =
+    let t = c .before .before in
+    let a = t .before .before .before .before .args in
+    gives-no-room (a .y) (a .out .now) (valid t) (omega (arith, c .before .size-of .ensures, c .if1 .taken))
+
+check-filing-requires : tie.Need-check-filing-requires
+check-filing-requires c κs = search needs
+
+enum-known-answer : tie.Need-enum-known-answer
+enum-known-answer c = search needs
+
+returns : tie.Need-returns
+returns c =
+    let k = c .before .before .before in
+    let a = k .before .before .args in
+    gives-refused (a .y) (a .out .now) (c .before .answer .given .0 .0) (sym (ap answerNumber (c .before .answer .given .1)) ∙ k .check-filing .ensures)
+
+enum-told : tie.Need-enum-told
+enum-told c = search needs
+
+size-of-requires : tie.Need-size-of-requires
+size-of-requires c κs = search (needs, valid)
+
+returns-2 : tie.Need-returns-2
+returns-2 c = search no-room
+
+put-year-requires : tie.Need-put-year-requires
+put-year-requires c κs = search (needs, valid)
+
+same-length : tie.Need-same-length
+same-length c = search needs
+
+returns-3 : tie.Need-returns-3
+returns-3 c =
+    let p = c .before .before in
+    let e = p .before .before in
+    let t = e .before .before in
+    let a = t .before .before .before .before .args in
+    gives-length (a .y) (a .out .now) (valid t) (omega (arith, e .before .size-of .ensures, e .if1 .left)) (p .put-year .ensures)
+
+pub write-return-spec : {M : Type 1} → statement M
+write-return-spec =
+    tie.close
+    (tie.spec
+    check-filing-requires
+    enum-known-answer
+    returns
+    enum-told
+    size-of-requires
+    returns-2
+    put-year-requires
+    same-length
+    returns-3)

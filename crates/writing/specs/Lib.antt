@@ -1,0 +1,2 @@
+-- What writing a return answers.
+pub mod Written

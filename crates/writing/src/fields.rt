@@ -1,0 +1,112 @@
+// Single fields of a return, written into a buffer with room for them.
+use codec::put;
+use codec::put_head;
+use codec::unsigned;
+use filing::Factors;
+use filing::Return;
+use money::magnitude;
+use year::Year;
+ghost use mathlib.Core.Path.{_≡_};
+ghost use mathlib.Core.Bool.{cond, true};
+ghost use mathlib.Core.List.{_++_};
+ghost use Prim.Native.Nat.{_+_, _≤_};
+ghost use lib.ListN.{length};
+ghost use Rattle.codec.specs.Numbers.{bytesOf};
+ghost use Rattle.codec.specs.Fields.{head};
+ghost use Rattle.codec.specs.Buffers.{Wrote};
+ghost use Rattle.filing.specs.Form.{factors, mark, within};
+ghost use Rattle.filing.specs.Return.{returnOf, validYear};
+
+// A number of n bytes.
+pub(crate) fn lay(out: &mut [u8], at: usize, n: usize, v: u64) -> usize
+    requires { ⌜ (at + n ≤ length (now out)) × (n ≤ 8) ⌝ }
+    ensures { λ r. ⌜ Wrote (now (out .entry)) at (bytesOf n v) (now (out .exit)) r ⌝ }
+{
+    put(out, at, n, v)
+}
+
+// The tag and the length of a field.
+pub(crate) fn lay_head(out: &mut [u8], at: usize, tag: u8, len: u16) -> usize
+    requires { ⌜ at + 3 ≤ length (now out) ⌝ }
+    ensures { λ r. ⌜ Wrote (now (out .entry)) at (head tag len) (now (out .exit)) r ⌝ }
+{
+    put_head(out, at, tag, len)
+}
+
+// A field of one number.
+pub(crate) fn put_number(out: &mut [u8], at: usize, tag: u8, len: u16, v: u64) -> usize
+    requires { ⌜ (at + (3 + len) ≤ length (now out)) × (len ≤ 8) ⌝ }
+    ensures { λ r. ⌜ Wrote (now (out .entry)) at (head tag len ++ bytesOf len v) (now (out .exit)) r ⌝ }
+{
+    let p = lay_head(out, at, tag, len);
+    lay(out, p, len as usize, v)
+}
+
+// 05: the partial-year factors, unless a return of the year leaves them out.
+pub(crate) fn put_factors(out: &mut [u8], at: usize, year: u8, pyc: u16, pyf: u16) -> usize
+    requires { ⌜ at + length (factors year .write (pyc, pyf)) ≤ length (now out) ⌝ }
+    ensures { λ r. ⌜ Wrote (now (out .entry)) at (factors year .write (pyc, pyf)) (now (out .exit)) r ⌝ }
+{
+    let f = Factors { pyc, pyf };
+    if f.are_left_out(year) {
+        return at;
+    }
+    let p = lay_head(out, at, Return::FACTORS, 4);
+    let q = lay(out, p, 2, pyc as u64);
+    lay(out, q, 2, pyf as u64)
+}
+
+// 08: the mark of an Exceptional Event.
+pub(crate) fn put_mark(out: &mut [u8], at: usize, exceptional: bool) -> usize
+    requires { ⌜ at + length (mark .write (cond exceptional 1 0)) ≤ length (now out) ⌝ }
+    ensures { λ r. ⌜ Wrote (now (out .entry)) at (mark .write (cond exceptional 1 0)) (now (out .exit)) r ⌝ }
+{
+    if exceptional {
+        return put_number(out, at, Return::EXCEPTIONAL, 1, 1);
+    }
+    at
+}
+
+// 09: the within-period adjustment, unless it is 0.
+pub(crate) fn put_within(out: &mut [u8], at: usize, paid: i64) -> usize
+    requires { ⌜ at + length (within .write paid) ≤ length (now out) ⌝ }
+    ensures { λ r. ⌜ Wrote (now (out .entry)) at (within .write paid) (now (out .exit)) r ⌝ }
+{
+    if magnitude(paid) == 0 {
+        return at;
+    }
+    put_number(out, at, Return::WITHIN, 8, unsigned(paid))
+}
+
+// What the factors, the mark and the adjustment take.
+fn size_of_rest(y: Year) -> usize
+    ensures { λ r. ⌜
+        (r ≡ length (factors (y .number) .write (y .pyc, y .pyf)) + (length (mark .write (cond (y .exceptional) 1 0)) + length (within .write (y .within))))
+        × (r ≤ 22)
+        ⌝ }
+{
+    let f = Factors {
+        pyc: y.pyc,
+        pyf: y.pyf,
+    };
+    let mut n: usize = 0;
+    if !f.are_left_out(y.number) {
+        n += 7;
+    }
+    if y.exceptional {
+        n += 4;
+    }
+    let paid = y.within;
+    if magnitude(paid) != 0 {
+        n += 11;
+    }
+    n
+}
+
+// How many bytes the return of a valid year has.
+pub(crate) fn size_of(y: Year) -> usize
+    requires { ⌜ validYear y ≡ true ⌝ }
+    ensures { λ r. ⌜ r ≡ length (returnOf y) ⌝ }
+{
+    23 + (13 * y.line_count + (13 * y.log.count + size_of_rest(y)))
+}

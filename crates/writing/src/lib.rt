@@ -1,0 +1,75 @@
+// Writes a yearly return into a lent buffer: document 01, "The yearly return".
+mod checking;
+mod fields;
+mod rows;
+
+use checking::check_filing;
+use fields::put_factors;
+use fields::put_mark;
+use fields::put_number;
+use fields::put_within;
+use fields::size_of;
+use filing::Return;
+use refusals::Answer;
+use refusals::Refusal;
+use rows::put_lines;
+use rows::put_outages;
+use year::Year;
+ghost use mathlib.Core.Path.{_≡_};
+ghost use mathlib.Core.Bool.{true};
+ghost use Prim.Native.Nat.{_≤_};
+ghost use lib.ListN.{length};
+ghost use Rattle.refusals.specs.Refusals.{lowest};
+ghost use Rattle.codec.specs.Buffers.{Wrote};
+ghost use Rattle.filing.specs.Return.{returnOf, validYear, writeRows, writtenBuffer, writtenLength};
+ghost use Rattle.writing.specs.Written.{lengthFigure, requiredOf, writtenNumber};
+
+// How many bytes were written, or why none.
+pub enum Written {
+    Length(usize),
+    Refused(Refusal),
+}
+
+// The four required fields.
+fn put_required(y: Year, out: &mut [u8]) -> usize
+    requires { ⌜ (validYear y ≡ true) × (length (returnOf y) ≤ length (now out)) ⌝ }
+    ensures { λ r. ⌜ Wrote (now (out .entry)) 0 (requiredOf y) (now (out .exit)) r ⌝ }
+{
+    let a = put_number(out, 0, Return::YEAR, 1, y.number as u64);
+    let b = put_number(out, a, Return::PPPI, 4, y.pppi as u64);
+    let c = put_number(out, b, Return::RATE, 4, y.rate as u64);
+    put_number(out, c, Return::AIC, 2, y.aic as u64)
+}
+
+// The bytes of a valid year at the front of a buffer with room for them.
+fn put_year(y: Year, out: &mut [u8]) -> usize
+    requires { ⌜ (validYear y ≡ true) × (length (returnOf y) ≤ length (now out)) ⌝ }
+    ensures { λ r. ⌜ Wrote (now (out .entry)) 0 (returnOf y) (now (out .exit)) r ⌝ }
+{
+    let lines = y.lines;
+    let log = y.log;
+    let a = put_required(y, out);
+    let b = put_factors(out, a, y.number, y.pyc, y.pyf);
+    let c = put_lines(out, b, lines, y.line_count);
+    let d = put_outages(out, c, log);
+    let e = put_mark(out, d, y.exceptional);
+    put_within(out, e, y.within)
+}
+
+// The return of a year, at the front of the buffer, and its length; or 1, 9 or 14, and not a byte written.
+pub fn write_return(y: Year, out: &mut [u8]) -> Written
+    ensures { λ r. ⌜
+        (writtenNumber r ≡ lowest (writeRows y (length (now (out .entry)))))
+        × (lengthFigure r ≡ writtenLength y (length (now (out .entry))))
+        × (now (out .exit) ≡ writtenBuffer y (now (out .entry)))
+        ⌝ }
+{
+    let answer = check_filing(y);
+    if let Answer::Refused(why) = answer {
+        return Written::Refused(why);
+    }
+    if out.len() < size_of(y) {
+        return Written::Refused(Refusal::NoRoom);
+    }
+    Written::Length(put_year(y, out))
+}
