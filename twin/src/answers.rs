@@ -1,0 +1,177 @@
+//! Answer lines in readable form.
+
+use crate::script::Call;
+use crate::words::time_words;
+
+/// What a refusal's number says (01, "Numbers a call can give instead").
+pub fn refusal_words(number: i128) -> &'static str {
+    match number {
+        1 => "the log breaks a rule",
+        2 => "start not below end, or end past the regime end",
+        3 => "MW outside 1 to 1,000",
+        4 => "shares a minute with an entry",
+        5 => "400 entries held",
+        6 => "no entry has that start",
+        7 => "stretch reversed or past the regime end",
+        8 => "a book entry or regime end out of range, or book and log differ in regime end",
+        9 => "year number, index, rate, factor, line or amount out of range",
+        10 => "floor balance above cap balance",
+        11 => "above 10^9, or a balance or what is settled above 10^10",
+        12 => "day number out of range, period reversed, or n not 0 to 499",
+        13 => "return malformed",
+        14 => "no room for the written return",
+        _ => "no such refusal",
+    }
+}
+
+fn entries(count: i128) -> String {
+    if count == 1 {
+        "1 entry".to_string()
+    } else {
+        format!("{count} entries")
+    }
+}
+
+/// A log's count, regime end and every slot that is not zero.
+fn log_words(numbers: &[i128]) -> Option<String> {
+    let (count, regime_end) = (numbers.first()?, numbers.get(1)?);
+    let mut words = format!("{}, regime end {}", entries(*count), time_words(*regime_end));
+    for (slot, outage) in numbers[2..].chunks(3).enumerate() {
+        if let [start, end, mw] = outage {
+            if [*start, *end, *mw] != [0, 0, 0] {
+                let (start, end) = (time_words(*start), time_words(*end));
+                words += &format!("; slot {slot}: {start} to {end}, {mw} MW");
+            }
+        }
+    }
+    Some(words)
+}
+
+fn year_words(numbers: &[i128]) -> Option<String> {
+    let (head, rest) = (numbers.get(..9)?, numbers.get(9..)?);
+    let mut words = format!(
+        "year {}, PPPI {}, rate {}, AIC {}, PYC {}, PYF {}, line count {}, {}, W {}",
+        head[0],
+        head[1],
+        head[2],
+        head[3],
+        head[4],
+        head[5],
+        head[6],
+        if head[7] == 1 { "marked" } else { "no mark" },
+        head[8],
+    );
+    for (slot, line) in rest.get(..192)?.chunks(3).enumerate() {
+        if line != [0, 0, 0] {
+            let (kind, currency, amount) = (line[0], line[1], line[2]);
+            words += &format!("; line {slot}: kind {kind}, currency {currency}, {amount}");
+        }
+    }
+    Some(format!("{words}; log: {}", log_words(rest.get(192..)?)?))
+}
+
+fn book_words(numbers: &[i128]) -> Option<String> {
+    let [end, target_1, target_25, pcl, pfl, pcac, pcaf, orac, oraf, factor] = numbers[..] else {
+        return None;
+    };
+    let end = time_words(end);
+    Some(format!(
+        "regime end {end}, targets {target_1} and {target_25} MWh, PCL {pcl}, PFL {pfl}, \
+         PCAC {pcac}, PCAF {pcaf}, ORAC {orac}, ORAF {oraf}, factor on a miss {factor}"
+    ))
+}
+
+/// A call's figures where it is accepted.
+fn figure_words(call: &Call, figures: &[i128]) -> Option<String> {
+    let first = figures.first().copied();
+    Some(match call {
+        Call::Empty { .. } | Call::Enter { .. } | Call::Cancel { .. } => {
+            format!("accepted, {}", entries(first?))
+        }
+        Call::Lost { .. } | Call::Availability { .. } => format!("{} MW-minutes", first?),
+        Call::Minutes { .. } => {
+            format!("{} to {}", time_words(first?), time_words(*figures.get(1)?))
+        }
+        Call::Target { .. } => (if first? == 1 { "met" } else { "not met" }).to_string(),
+        Call::Levels { .. } => format!("cap {}, floor {}", first?, figures.get(1)?),
+        Call::Assess { .. } | Call::Period => {
+            let [a, c, f, w, t, adjustment] = figures[..] else { return None };
+            format!("A {a}, C {c}, F {f}, W {w}, T {t}, adjustment {adjustment}")
+        }
+        Call::Gap { .. } => format!("n = {}", first?),
+        Call::Growth { .. } => format!("entry {}", first?),
+        Call::Revenue { .. } | Call::Pay { .. } | Call::Settle { .. } | Call::Reconcile { .. } => {
+            format!("{} pounds", first?)
+        }
+        Call::Read { .. } => format!("accepted, year sum {}", figures.get(1)?),
+        Call::Write { .. } | Call::Refile { .. } => {
+            format!("{} bytes, buffer sum {}", first?, figures.get(1)?)
+        }
+        Call::Sheet { .. } => format!("text of {} bytes, sum {}", first?, figures.get(1)?),
+        _ => "done".to_string(),
+    })
+}
+
+fn words_of_numbers(call: &Call, numbers: &[i128]) -> Option<String> {
+    match call {
+        Call::ShowLog => return log_words(numbers),
+        Call::ShowYear { .. } => return year_words(numbers),
+        Call::ShowBook => return book_words(numbers),
+        _ => (),
+    }
+    let (number, figures) = numbers.split_first()?;
+    if let (Call::ShowWrite { .. }, 0) = (call, *number) {
+        let (length, bytes) = figures.split_first()?;
+        let written = bytes.get(..usize::try_from(*length).ok()?)?;
+        let digits: String = written.iter().map(|byte| format!("{byte:02x}")).collect();
+        return Some(format!("{length} bytes: {digits}"));
+    }
+    if *number == 0 {
+        return figure_words(call, figures);
+    }
+    let place = match call {
+        Call::Read { .. } => format!(" at place {}", figures.first()?),
+        _ => String::new(),
+    };
+    Some(format!("refused {number}{place}: {}", refusal_words(*number)))
+}
+
+/// An answer line in readable form; one that does not fit the call as it is.
+pub fn answer_words(call: &Call, answer: &str) -> String {
+    if let Some(place) = answer.strip_prefix("malformed ") {
+        return format!("malformed at place {place} of the script");
+    }
+    let numbers: Option<Vec<i128>> =
+        answer.split_whitespace().map(|number| number.parse().ok()).collect();
+    let words = numbers.and_then(|numbers| words_of_numbers(call, &numbers));
+    words.unwrap_or_else(|| answer.to_string())
+}
+
+#[cfg(test)]
+mod tests {
+    use super::*;
+    use crate::words::parse_line;
+
+    fn words(line: &str, answer: &str) -> String {
+        answer_words(&parse_line(line).unwrap()[0], answer)
+    }
+
+    #[test]
+    fn readable_answers() {
+        assert_eq!(words("enter 1 2 3", "0 3 99"), "accepted, 3 entries");
+        assert_eq!(words("enter 1 2 3", "4 3 99"), "refused 4: shares a minute with an entry");
+        assert_eq!(
+            words("minutes 2 0", "0 482400 1009440"),
+            "2020-01-01 00:00 to 2021-01-01 00:00",
+        );
+        assert_eq!(words("target 2", "0 1"), "met");
+        assert_eq!(words("read 0 00", "13 0 5"), "refused 13 at place 0: return malformed");
+        assert_eq!(words("set-count 0 0", "0"), "done");
+        assert_eq!(words("show-log", "malformed 12"), "malformed at place 12 of the script");
+        assert_eq!(words("levels 0", "what"), "what");
+        assert_eq!(
+            words("show-write 0 3", "14 0 0 1 2"),
+            "refused 14: no room for the written return"
+        );
+    }
+}

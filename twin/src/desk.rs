@@ -1,0 +1,323 @@
+//! What stands, and the calls carried out on it (docs/REPLAY.md, "What
+//! stands" and "Calls").
+
+use std::fmt::Write as _;
+use std::io::{self, BufRead, Write};
+
+use crate::model::assessment::{assess, assess_period, Assessment};
+use crate::model::book::Book;
+use crate::model::calendar::year_minutes;
+use crate::model::daysheet;
+use crate::model::growth::growth;
+use crate::model::levels::{availability, levels, target_met};
+use crate::model::log::Log;
+use crate::model::revenue::assessed_revenue;
+use crate::model::settlement::{gap, payment, reconcile, settle};
+use crate::model::sums::{byte_sum, log_sum, year_sum};
+use crate::model::year::Year;
+use crate::model::yearly_return::{read, write_into};
+use crate::model::Refusal;
+use crate::script::{next_field, Call, Field};
+
+#[derive(Clone)]
+pub struct Desk {
+    pub log: Log,
+    pub book: Book,
+    pub years: [Year; 5],
+}
+
+/// Numbers in a row, a blank between them.
+fn row(numbers: impl IntoIterator<Item = i128>) -> String {
+    let mut text = String::new();
+    for number in numbers {
+        if !text.is_empty() {
+            text.push(' ');
+        }
+        write!(text, "{number}").unwrap();
+    }
+    text
+}
+
+/// The refusal's number and the figures, which are 0 beside a refusal.
+fn figures<const N: usize>(answer: Result<[i128; N], Refusal>) -> String {
+    let (number, figures) = match answer {
+        Ok(figures) => (0, figures),
+        Err(refusal) => (refusal, [0; N]),
+    };
+    row([number as i128].into_iter().chain(figures))
+}
+
+fn assessment_figures(answer: Result<Assessment, Refusal>) -> String {
+    figures(answer.map(|x| [x.a, x.c, x.f, x.w, x.t, x.adjustment]))
+}
+
+/// The number of a call without figures.
+fn number_of(answer: Result<(), Refusal>) -> Refusal {
+    answer.err().unwrap_or(0)
+}
+
+/// The buffer that is lent: byte i is i mod 251.
+fn lent_buffer(room: u16) -> Vec<u8> {
+    (0..room as usize).map(|i| (i % 251) as u8).collect()
+}
+
+fn log_numbers(log: &Log) -> Vec<i128> {
+    let mut numbers = vec![log.count as i128, log.regime_end as i128];
+    for slot in &log.slots {
+        numbers.extend([slot.start as i128, slot.end as i128, slot.mw as i128]);
+    }
+    numbers
+}
+
+fn year_numbers(year: &Year) -> Vec<i128> {
+    let mut numbers = vec![
+        year.number as i128,
+        year.pppi as i128,
+        year.rate as i128,
+        year.aic as i128,
+        year.pyc as i128,
+        year.pyf as i128,
+        year.line_count as i128,
+        year.mark as i128,
+        year.w as i128,
+    ];
+    for line in &year.lines {
+        numbers.extend([line.kind as i128, line.currency as i128, line.amount as i128]);
+    }
+    numbers.extend(log_numbers(&year.log));
+    numbers
+}
+
+fn book_numbers(book: &Book) -> [i128; 10] {
+    [
+        book.regime_end as i128,
+        book.target_1 as i128,
+        book.target_25 as i128,
+        book.pcl as i128,
+        book.pfl as i128,
+        book.pcac as i128,
+        book.pcaf as i128,
+        book.orac as i128,
+        book.oraf as i128,
+        book.miss_factor as i128,
+    ]
+}
+
+impl Desk {
+    pub fn new() -> Desk {
+        Desk {
+            log: Log::fresh(),
+            book: Book::fresh(),
+            years: std::array::from_fn(|_| Year::fresh()),
+        }
+    }
+
+    fn log_answer(&self, number: Refusal) -> String {
+        row([number as i128, self.log.count as i128, log_sum(&self.log) as i128])
+    }
+
+    fn year(&mut self, k: u8) -> &mut Year {
+        &mut self.years[k as usize]
+    }
+
+    /// Carries out a call and gives its answer line.
+    pub fn carry_out(&mut self, call: &Call) -> String {
+        match call {
+            Call::Empty { regime_end } => {
+                let made = Log::empty(*regime_end);
+                let number = number_of(made.as_ref().map(|_| ()).map_err(|refusal| *refusal));
+                self.log = made.unwrap_or_else(|_| Log::fresh());
+                self.log_answer(number)
+            }
+            Call::Enter { outage } => {
+                let number = number_of(self.log.enter(*outage));
+                self.log_answer(number)
+            }
+            Call::Cancel { start } => {
+                let number = number_of(self.log.cancel(*start));
+                self.log_answer(number)
+            }
+            Call::Lost { a, b } => figures(self.log.lost(*a, *b).map(|lost| [lost])),
+            Call::Minutes { year, regime_end } => {
+                figures(year_minutes(*year, *regime_end).map(|(first, end)| [first, end]))
+            }
+            Call::Availability { year } => {
+                figures(availability(&self.book, &self.log, *year).map(|energy| [energy]))
+            }
+            Call::Target { year } => {
+                figures(target_met(&self.book, &self.log, *year).map(|met| [met as i128]))
+            }
+            Call::Levels { k } => {
+                let answer = levels(&self.book, &self.years[*k as usize], &self.log);
+                figures(answer.map(|(cap, floor)| [cap, floor]))
+            }
+            Call::Revenue { k } => figures(assessed_revenue(self.year(*k)).map(|pounds| [pounds])),
+            Call::Assess { rows } => assessment_figures(assess(rows)),
+            Call::Period => assessment_figures(assess_period(&self.book, &self.years, &self.log)),
+            Call::Gap { earlier, later } => figures(gap(*earlier, *later).map(|n| [n as i128])),
+            Call::Growth { n } => figures(growth(*n).map(|entry| [entry])),
+            Call::Pay { amount, n } => figures(payment(*amount, *n).map(|pounds| [pounds])),
+            Call::Settle { adjustment, earlier, later } => {
+                figures(settle(*adjustment, *earlier, *later).map(|pounds| [pounds]))
+            }
+            Call::Reconcile { final_amount, provisional, earlier, later } => {
+                let answer = reconcile(*final_amount, *provisional, *earlier, *later);
+                figures(answer.map(|pounds| [pounds]))
+            }
+            Call::Read { k, bytes } => {
+                let (number, place, year) = match read(bytes) {
+                    Ok(year) => (0, 0, year),
+                    Err(place) => (13, place as i128, Year::fresh()),
+                };
+                *self.year(*k) = year;
+                row([number, place, year_sum(self.year(*k)) as i128])
+            }
+            Call::Write { k, room } => {
+                let mut buffer = lent_buffer(*room);
+                let (number, length) = write_into(self.year(*k), &mut buffer);
+                row([number as i128, length as i128, byte_sum(&buffer) as i128])
+            }
+            Call::Refile { room, bytes } => {
+                let mut buffer = lent_buffer(*room);
+                let (number, length) = match read(bytes) {
+                    Ok(year) => write_into(&year, &mut buffer),
+                    Err(_) => (13, 0),
+                };
+                row([number as i128, length as i128, byte_sum(&buffer) as i128])
+            }
+            Call::Sheet { bytes } => {
+                let text = daysheet::text(bytes);
+                row([0, text.len() as i128, byte_sum(text.as_bytes()) as i128])
+            }
+            Call::ShowLog => row(log_numbers(&self.log)),
+            Call::ShowYear { k } => row(year_numbers(self.year(*k))),
+            Call::ShowBook => row(book_numbers(&self.book)),
+            Call::ShowWrite { k, room } => {
+                let mut buffer = lent_buffer(*room);
+                let (number, length) = write_into(self.year(*k), &mut buffer);
+                let head = [number as i128, length as i128];
+                row(head.into_iter().chain(buffer.iter().map(|byte| *byte as i128)))
+            }
+            setting => {
+                self.set(setting);
+                "0".to_string()
+            }
+        }
+    }
+
+    /// Sets what stands to anything.
+    fn set(&mut self, call: &Call) {
+        match call {
+            Call::SetSlot { slot, outage } => self.log.slots[*slot as usize] = *outage,
+            Call::SetCount { count, regime_end } => {
+                self.log.count = *count;
+                self.log.regime_end = *regime_end;
+            }
+            Call::SetBook { book } => self.book = book.clone(),
+            Call::SetYear { k, fields } => {
+                let year = self.year(*k);
+                year.number = fields.number;
+                year.pppi = fields.pppi;
+                year.rate = fields.rate;
+                year.aic = fields.aic;
+                year.pyc = fields.pyc;
+                year.pyf = fields.pyf;
+                year.mark = fields.mark;
+                year.w = fields.w;
+                year.line_count = fields.line_count;
+            }
+            Call::SetLine { k, slot, line } => self.year(*k).lines[*slot as usize] = *line,
+            Call::FreshYear { k } => *self.year(*k) = Year::fresh(),
+            Call::YearLog { k } => self.years[*k as usize].log = self.log.clone(),
+            Call::TakeLog { k } => self.log = self.years[*k as usize].log.clone(),
+            _ => unreachable!("not a call that sets something"),
+        }
+    }
+}
+
+/// Carries out a script and prints each answer on a line of its own.
+pub fn carry_out_script(input: &mut impl BufRead, output: &mut impl Write) -> io::Result<()> {
+    let mut desk = Desk::new();
+    let mut place = 0;
+    loop {
+        let (field, length) = next_field(input)?;
+        match field {
+            Field::Call(call) => writeln!(output, "{}", desk.carry_out(&call))?,
+            Field::Malformed => return writeln!(output, "malformed {place}"),
+            Field::End => return Ok(()),
+        }
+        place += length;
+    }
+}
+
+#[cfg(test)]
+mod tests {
+    use super::*;
+    use crate::model::log::Slot;
+
+    fn answers(script: &[u8]) -> String {
+        let mut output = Vec::new();
+        carry_out_script(&mut &script[..], &mut output).unwrap();
+        String::from_utf8(output).unwrap()
+    }
+
+    #[test]
+    fn a_short_script() {
+        let outage = Slot { start: 10, end: 20, mw: 3 };
+        let calls = [
+            Call::Enter { outage },
+            Call::Lost { a: 0, b: 100 },
+            Call::Growth { n: 100 },
+            Call::Growth { n: 500 },
+            Call::ShowBook,
+        ];
+        let mut script: Vec<u8> = calls.iter().flat_map(Call::encode).collect();
+        let mut log = Log::fresh();
+        log.enter(outage).unwrap();
+        let expected = format!(
+            "0 1 {}\n0 30\n0 1038800000\n12 0\n{}\n",
+            log_sum(&log),
+            "13632480 0 0 83806402 48807317 0 0 0 0 0",
+        );
+        assert_eq!(answers(&script), expected);
+        let length = script.len();
+        script.extend([21, 0, 0, 48, 0, 0]);
+        assert_eq!(answers(&script), format!("{expected}malformed {length}\n"));
+    }
+
+    #[test]
+    fn cut_scripts() {
+        assert_eq!(answers(&[]), "");
+        assert_eq!(answers(&[1]), "malformed 0\n");
+        assert_eq!(answers(&[1, 0]), "malformed 0\n");
+        assert_eq!(answers(&[20, 0, 1]), "malformed 0\n");
+        assert_eq!(answers(&[37, 0, 1, 4, 37, 0, 1, 5]), "0\nmalformed 4\n");
+    }
+
+    #[test]
+    fn a_refused_empty_log_stands_to_the_last_regime_end() {
+        let mut desk = Desk::new();
+        desk.carry_out(&Call::Empty { regime_end: 13_000_000 });
+        assert_eq!(desk.log.regime_end, 13_000_000);
+        let answer = desk.carry_out(&Call::Empty { regime_end: 1 });
+        assert_eq!(answer, format!("8 0 {}", log_sum(&Log::fresh())));
+        assert_eq!(desk.log, Log::fresh());
+    }
+
+    #[test]
+    fn a_refused_reading_gives_a_fresh_year() {
+        let mut desk = Desk::new();
+        desk.years[2].rate = 7;
+        let answer = desk.carry_out(&Call::Read { k: 2, bytes: vec![1, 0, 1, 1] });
+        assert_eq!(answer, format!("13 4 {}", year_sum(&Year::fresh())));
+        assert_eq!(desk.years[2], Year::fresh());
+    }
+
+    #[test]
+    fn room_and_untouched_bytes() {
+        let mut desk = Desk::new();
+        assert!(desk.carry_out(&Call::Write { k: 0, room: 23 }).starts_with("0 23 "));
+        assert!(desk.carry_out(&Call::Write { k: 0, room: 22 }).starts_with("14 0 "));
+        assert_eq!(desk.carry_out(&Call::ShowWrite { k: 0, room: 3 }), "14 0 0 1 2");
+    }
+}

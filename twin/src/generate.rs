@@ -1,0 +1,240 @@
+//! Scripts made from a seed, biased to edges, in blocks that stand alone.
+
+mod assessments;
+mod logs;
+mod random;
+mod records;
+mod returns;
+mod settlements;
+mod soup;
+mod values;
+
+use crate::desk::Desk;
+use crate::model::book::Book;
+use crate::model::log::LAST_REGIME_END;
+use crate::script::Call;
+use random::Random;
+
+/// Calls that belong together, with the model's answers. A block first sets
+/// all that it uses, so that it can be replayed alone.
+pub struct Block {
+    pub name: &'static str,
+    pub calls: Vec<(Call, String)>,
+}
+
+pub struct Generator {
+    random: Random,
+    desk: Desk,
+    calls: Vec<(Call, String)>,
+}
+
+impl Generator {
+    pub fn new(seed: u64) -> Generator {
+        Generator { random: Random::new(seed), desk: Desk::new(), calls: Vec::new() }
+    }
+
+    /// Carries a call out on the model and keeps it with its answer.
+    fn call(&mut self, call: Call) {
+        let answer = self.desk.carry_out(&call);
+        self.calls.push((call, answer));
+    }
+
+    pub fn next_block(&mut self) -> Block {
+        match self.random.below(24) {
+            0..=3 => self.block("log", Generator::log_work),
+            4 | 5 => self.block("full log", Generator::full_log_work),
+            6 | 7 => self.block("broken log", Generator::broken_log_work),
+            8 | 9 => self.block("target", Generator::target_work),
+            10 | 11 => self.block("book", Generator::book_work),
+            12 | 13 => self.block("years", Generator::year_work),
+            14..=16 => self.block("assessment", Generator::assessment_work),
+            17 | 18 => self.block("period", Generator::period_work),
+            19 => self.block("settlement", Generator::settlement_work),
+            20..=22 => self.return_block(),
+            _ => self.block("anything", Generator::soup_work),
+        }
+    }
+
+    pub fn return_block(&mut self) -> Block {
+        self.block("returns", Generator::return_work)
+    }
+
+    fn block(&mut self, name: &'static str, work: fn(&mut Generator)) -> Block {
+        self.start_afresh();
+        work(self);
+        if self.random.one_in(4) {
+            self.show();
+        }
+        Block { name, calls: std::mem::take(&mut self.calls) }
+    }
+
+    /// Sets all that stands, whatever stood before.
+    fn start_afresh(&mut self) {
+        self.call(Call::Empty { regime_end: LAST_REGIME_END });
+        self.call(Call::SetBook { book: Book::fresh() });
+        for k in 0..5 {
+            self.call(Call::FreshYear { k });
+        }
+    }
+
+    /// Shows all that stands.
+    fn show(&mut self) {
+        let k = self.any_k();
+        let room = self.some_room(k);
+        self.call(Call::ShowLog);
+        self.call(Call::ShowYear { k });
+        self.call(Call::ShowBook);
+        self.call(Call::ShowWrite { k, room });
+    }
+
+    fn any_k(&mut self) -> u8 {
+        self.random.below(5) as u8
+    }
+
+    /// Bytes that are no field of a script, with a good field after them.
+    pub fn malformed_field(&mut self) -> Vec<u8> {
+        let random = &mut self.random;
+        let k_tags = [8, 9, 37, 38, 39, 49];
+        let mut field = match random.below(9) {
+            0 => vec![random.pick(&[0, 21, 31, 40, 47, 52, 255]), 0, 0],
+            1 => vec![random.pick(&k_tags), 0, 1, random.pick(&[5, 255])],
+            2 => vec![random.pick(&[18, 51]), 0, 3, 5, 0, 0],
+            3 => vec![random.pick(&[17, 19]), 0, 0],
+            4 => vec![17, 0, 2, 5, 1],
+            5 => {
+                let slot = random.pick(&[400u16, 401, 65_535]).to_be_bytes();
+                [&[32, 0, 12][..], &slot, &[0; 10]].concat()
+            }
+            6 => [&[36, 0, 12, 0, random.pick(&[64, 255])][..], &[0; 10]].concat(),
+            7 => {
+                let mut set_year = vec![35, 0, 33];
+                set_year.extend([0; 33]);
+                set_year[3 + 16] = random.pick(&[2, 255]);
+                set_year
+            }
+            _ => return self.wrong_length(),
+        };
+        field.extend(Call::ShowBook.encode());
+        field
+    }
+
+    /// A field whose length is not that of its tag, or a field that is cut.
+    fn wrong_length(&mut self) -> Vec<u8> {
+        let mut block = self.block("anything", Generator::soup_work);
+        block.calls.retain(|(call, _)| ![17, 19, 20].contains(&call.tag()));
+        let (call, _) = self.random.pick(&block.calls);
+        let mut field = call.encode();
+        if self.random.one_in(2) {
+            let most = field.len() as u64 - 1;
+            field.truncate(1 + self.random.below(most) as usize);
+            return field;
+        }
+        let length = field.len() - 3;
+        let wrong = if length > 0 && self.random.one_in(2) { length - 1 } else { length + 1 };
+        field[1..3].copy_from_slice(&(wrong as u16).to_be_bytes());
+        field.resize(3 + wrong, 0);
+        field.extend(Call::ShowBook.encode());
+        field
+    }
+}
+
+#[cfg(test)]
+mod tests {
+    use super::*;
+    use crate::script::{next_field, Field};
+    use std::collections::BTreeMap;
+
+    #[test]
+    fn a_block_stands_alone() {
+        let mut generator = Generator::new(11);
+        for _ in 0..60 {
+            let block = generator.next_block();
+            let mut desk = Desk::new();
+            for (call, answer) in &block.calls {
+                assert_eq!(desk.carry_out(call), *answer, "in a block of {}", block.name);
+            }
+        }
+    }
+
+    #[test]
+    fn lost_energy_minute_by_minute() {
+        let mut generator = Generator::new(4);
+        let mut short_stretches = 0;
+        for _ in 0..100 {
+            let mut desk = Desk::new();
+            for (call, answer) in generator.next_block().calls {
+                desk.carry_out(&call);
+                let Call::Lost { a, b } = call else { continue };
+                if answer.starts_with("0 ") && b - a <= 3_000 {
+                    let slow = desk.log.lost_by_minutes(a as i128, b as i128);
+                    assert_eq!(answer, format!("0 {slow}"));
+                    short_stretches += (slow > 0) as u64;
+                }
+            }
+        }
+        assert!(short_stretches > 20);
+    }
+
+    #[test]
+    fn the_same_seed_makes_the_same_script() {
+        let calls = |seed| {
+            let mut generator = Generator::new(seed);
+            (0..10).flat_map(|_| generator.next_block().calls).collect::<Vec<_>>()
+        };
+        assert!(calls(5) == calls(5));
+        assert!(calls(5) != calls(6));
+    }
+
+    #[test]
+    fn malformed_fields_are_malformed() {
+        let mut generator = Generator::new(2);
+        for _ in 0..300 {
+            let bytes = generator.malformed_field();
+            let (field, _) = next_field(&mut &bytes[..]).unwrap();
+            assert!(matches!(field, Field::Malformed), "{bytes:?}");
+        }
+    }
+
+    /// Every call is accepted often, and refused often with every number that
+    /// it can give (READINGS, the table of checks).
+    #[test]
+    fn every_refusal_is_frequent() {
+        let expected: [(u8, &[&str]); 19] = [
+            (1, &["0", "8"]),
+            (2, &["0", "1", "2", "3", "4", "5"]),
+            (3, &["0", "1", "6"]),
+            (4, &["0", "1", "7"]),
+            (5, &["0", "9"]),
+            (6, &["0", "8", "1", "9"]),
+            (7, &["0", "8", "1", "9"]),
+            (8, &["0", "8", "1", "9", "11"]),
+            (9, &["0", "9", "11"]),
+            (10, &["0", "9", "11", "10"]),
+            (11, &["0", "8", "1", "9", "11", "10"]),
+            (12, &["0", "12"]),
+            (13, &["0", "12"]),
+            (14, &["0", "12", "11"]),
+            (15, &["0", "12", "11"]),
+            (16, &["0", "12", "11"]),
+            (17, &["0", "13"]),
+            (18, &["0", "1", "9", "14"]),
+            (19, &["0", "13", "14"]),
+        ];
+        let mut seen: BTreeMap<(u8, String), u64> = BTreeMap::new();
+        let mut generator = Generator::new(1);
+        for _ in 0..300 {
+            for (call, answer) in generator.next_block().calls {
+                let number = answer.split(' ').next().unwrap().to_string();
+                *seen.entry((call.tag(), number)).or_default() += 1;
+            }
+        }
+        for (tag, numbers) in expected {
+            for number in numbers {
+                let times = seen.get(&(tag, number.to_string())).copied().unwrap_or(0);
+                assert!(times >= 20, "tag {tag}, number {number}: {times} times");
+            }
+            let of_tag = seen.keys().filter(|key| key.0 == tag).count();
+            assert_eq!(of_tag, numbers.len(), "tag {tag} gives other numbers too");
+        }
+    }
+}

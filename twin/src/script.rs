@@ -1,0 +1,472 @@
+//! Scripts of calls (docs/REPLAY.md, "A script" and "Calls").
+
+use std::io::{self, Read};
+
+use crate::model::assessment::Row;
+use crate::model::book::Book;
+use crate::model::log::{Slot, SLOTS};
+use crate::model::settlement::Period;
+use crate::model::year::{Line, LINES};
+
+/// A year but for its lines and its log, as tag 35 sets it.
+#[derive(Clone, Debug, PartialEq, Eq)]
+pub struct YearFields {
+    pub number: u8,
+    pub pppi: u32,
+    pub rate: u32,
+    pub aic: u16,
+    pub pyc: u16,
+    pub pyf: u16,
+    pub mark: bool,
+    pub w: i64,
+    pub line_count: u64,
+}
+
+/// A call; k is the place of a year, 0 to 4.
+#[derive(Clone, Debug, PartialEq, Eq)]
+pub enum Call {
+    Empty { regime_end: u32 },
+    Enter { outage: Slot },
+    Cancel { start: u32 },
+    Lost { a: u32, b: u32 },
+    Minutes { year: u8, regime_end: u32 },
+    Availability { year: u8 },
+    Target { year: u8 },
+    Levels { k: u8 },
+    Revenue { k: u8 },
+    Assess { rows: [Row; 5] },
+    Period,
+    Gap { earlier: Period, later: Period },
+    Growth { n: u32 },
+    Pay { amount: i64, n: u32 },
+    Settle { adjustment: i64, earlier: Period, later: Period },
+    Reconcile { final_amount: i64, provisional: i64, earlier: Period, later: Period },
+    Read { k: u8, bytes: Vec<u8> },
+    Write { k: u8, room: u16 },
+    Refile { room: u16, bytes: Vec<u8> },
+    Sheet { bytes: Vec<u8> },
+    SetSlot { slot: u16, outage: Slot },
+    SetCount { count: u64, regime_end: u32 },
+    SetBook { book: Book },
+    SetYear { k: u8, fields: YearFields },
+    SetLine { k: u8, slot: u8, line: Line },
+    FreshYear { k: u8 },
+    YearLog { k: u8 },
+    TakeLog { k: u8 },
+    ShowLog,
+    ShowYear { k: u8 },
+    ShowBook,
+    ShowWrite { k: u8, room: u16 },
+}
+
+impl Call {
+    pub fn tag(&self) -> u8 {
+        match self {
+            Call::Empty { .. } => 1,
+            Call::Enter { .. } => 2,
+            Call::Cancel { .. } => 3,
+            Call::Lost { .. } => 4,
+            Call::Minutes { .. } => 5,
+            Call::Availability { .. } => 6,
+            Call::Target { .. } => 7,
+            Call::Levels { .. } => 8,
+            Call::Revenue { .. } => 9,
+            Call::Assess { .. } => 10,
+            Call::Period => 11,
+            Call::Gap { .. } => 12,
+            Call::Growth { .. } => 13,
+            Call::Pay { .. } => 14,
+            Call::Settle { .. } => 15,
+            Call::Reconcile { .. } => 16,
+            Call::Read { .. } => 17,
+            Call::Write { .. } => 18,
+            Call::Refile { .. } => 19,
+            Call::Sheet { .. } => 20,
+            Call::SetSlot { .. } => 32,
+            Call::SetCount { .. } => 33,
+            Call::SetBook { .. } => 34,
+            Call::SetYear { .. } => 35,
+            Call::SetLine { .. } => 36,
+            Call::FreshYear { .. } => 37,
+            Call::YearLog { .. } => 38,
+            Call::TakeLog { .. } => 39,
+            Call::ShowLog => 48,
+            Call::ShowYear { .. } => 49,
+            Call::ShowBook => 50,
+            Call::ShowWrite { .. } => 51,
+        }
+    }
+
+    /// The call's field in a script.
+    pub fn encode(&self) -> Vec<u8> {
+        let mut value = Value(Vec::new());
+        self.put(&mut value);
+        let mut field = vec![self.tag()];
+        field.extend((value.0.len() as u16).to_be_bytes());
+        field.extend(value.0);
+        field
+    }
+
+    fn put(&self, value: &mut Value) {
+        match self {
+            Call::Empty { regime_end } => value.u32(*regime_end),
+            Call::Enter { outage } => value.outage(outage),
+            Call::Cancel { start } => value.u32(*start),
+            Call::Lost { a, b } => {
+                value.u32(*a);
+                value.u32(*b);
+            }
+            Call::Minutes { year, regime_end } => {
+                value.u8(*year);
+                value.u32(*regime_end);
+            }
+            Call::Availability { year } | Call::Target { year } => value.u8(*year),
+            Call::Levels { k }
+            | Call::Revenue { k }
+            | Call::FreshYear { k }
+            | Call::YearLog { k }
+            | Call::TakeLog { k }
+            | Call::ShowYear { k } => value.u8(*k),
+            Call::Assess { rows } => rows.iter().for_each(|row| value.row(row)),
+            Call::Period | Call::ShowLog | Call::ShowBook => (),
+            Call::Gap { earlier, later } => value.periods(earlier, later),
+            Call::Growth { n } => value.u32(*n),
+            Call::Pay { amount, n } => {
+                value.i64(*amount);
+                value.u32(*n);
+            }
+            Call::Settle { adjustment, earlier, later } => {
+                value.i64(*adjustment);
+                value.periods(earlier, later);
+            }
+            Call::Reconcile { final_amount, provisional, earlier, later } => {
+                value.i64(*final_amount);
+                value.i64(*provisional);
+                value.periods(earlier, later);
+            }
+            Call::Read { k, bytes } => {
+                value.u8(*k);
+                value.0.extend(bytes);
+            }
+            Call::Write { k, room } | Call::ShowWrite { k, room } => {
+                value.u8(*k);
+                value.u16(*room);
+            }
+            Call::Refile { room, bytes } => {
+                value.u16(*room);
+                value.0.extend(bytes);
+            }
+            Call::Sheet { bytes } => value.0.extend(bytes),
+            Call::SetSlot { slot, outage } => {
+                value.u16(*slot);
+                value.outage(outage);
+            }
+            Call::SetCount { count, regime_end } => {
+                value.u64(*count);
+                value.u32(*regime_end);
+            }
+            Call::SetBook { book } => value.book(book),
+            Call::SetYear { k, fields } => {
+                value.u8(*k);
+                value.year(fields);
+            }
+            Call::SetLine { k, slot, line } => {
+                value.u8(*k);
+                value.u8(*slot);
+                value.u8(line.kind);
+                value.u8(line.currency);
+                value.i64(line.amount);
+            }
+        }
+    }
+
+    /// The call of a tag and a value; none where they are malformed.
+    pub fn decode(tag: u8, value: &[u8]) -> Option<Call> {
+        let mut part = Parts(value);
+        let call = match tag {
+            1 => Call::Empty { regime_end: part.u32()? },
+            2 => Call::Enter { outage: part.outage()? },
+            3 => Call::Cancel { start: part.u32()? },
+            4 => Call::Lost { a: part.u32()?, b: part.u32()? },
+            5 => Call::Minutes { year: part.u8()?, regime_end: part.u32()? },
+            6 => Call::Availability { year: part.u8()? },
+            7 => Call::Target { year: part.u8()? },
+            8 => Call::Levels { k: part.k()? },
+            9 => Call::Revenue { k: part.k()? },
+            10 => {
+                let mut rows = [Row::default(); 5];
+                for row in &mut rows {
+                    *row = part.row()?;
+                }
+                Call::Assess { rows }
+            }
+            11 => Call::Period,
+            12 => Call::Gap { earlier: part.period()?, later: part.period()? },
+            13 => Call::Growth { n: part.u32()? },
+            14 => Call::Pay { amount: part.i64()?, n: part.u32()? },
+            15 => Call::Settle {
+                adjustment: part.i64()?,
+                earlier: part.period()?,
+                later: part.period()?,
+            },
+            16 => Call::Reconcile {
+                final_amount: part.i64()?,
+                provisional: part.i64()?,
+                earlier: part.period()?,
+                later: part.period()?,
+            },
+            17 => Call::Read { k: part.k()?, bytes: part.rest() },
+            18 => Call::Write { k: part.k()?, room: part.u16()? },
+            19 => Call::Refile { room: part.u16()?, bytes: part.rest() },
+            20 => Call::Sheet { bytes: part.rest() },
+            32 => {
+                let slot = part.u16()?;
+                if slot as usize >= SLOTS {
+                    return None;
+                }
+                Call::SetSlot { slot, outage: part.outage()? }
+            }
+            33 => Call::SetCount { count: part.u64()?, regime_end: part.u32()? },
+            34 => Call::SetBook { book: part.book()? },
+            35 => Call::SetYear { k: part.k()?, fields: part.year()? },
+            36 => {
+                let (k, slot) = (part.k()?, part.u8()?);
+                if slot as usize >= LINES {
+                    return None;
+                }
+                let line = Line { kind: part.u8()?, currency: part.u8()?, amount: part.i64()? };
+                Call::SetLine { k, slot, line }
+            }
+            37 => Call::FreshYear { k: part.k()? },
+            38 => Call::YearLog { k: part.k()? },
+            39 => Call::TakeLog { k: part.k()? },
+            48 => Call::ShowLog,
+            49 => Call::ShowYear { k: part.k()? },
+            50 => Call::ShowBook,
+            51 => Call::ShowWrite { k: part.k()?, room: part.u16()? },
+            _ => return None,
+        };
+        part.0.is_empty().then_some(call)
+    }
+}
+
+/// A value under way.
+struct Value(Vec<u8>);
+
+impl Value {
+    fn u8(&mut self, number: u8) {
+        self.0.push(number);
+    }
+
+    fn u16(&mut self, number: u16) {
+        self.0.extend(number.to_be_bytes());
+    }
+
+    fn u32(&mut self, number: u32) {
+        self.0.extend(number.to_be_bytes());
+    }
+
+    fn u64(&mut self, number: u64) {
+        self.0.extend(number.to_be_bytes());
+    }
+
+    fn i64(&mut self, number: i64) {
+        self.0.extend(number.to_be_bytes());
+    }
+
+    fn outage(&mut self, outage: &Slot) {
+        self.u32(outage.start);
+        self.u32(outage.end);
+        self.u16(outage.mw);
+    }
+
+    fn row(&mut self, row: &Row) {
+        self.u32(row.index);
+        self.i64(row.revenue);
+        self.i64(row.cap);
+        self.i64(row.floor);
+        self.i64(row.w);
+    }
+
+    fn periods(&mut self, earlier: &Period, later: &Period) {
+        for day in [earlier.first, earlier.last, later.first, later.last] {
+            self.u32(day);
+        }
+    }
+
+    fn book(&mut self, book: &Book) {
+        self.u32(book.regime_end);
+        self.u32(book.target_1);
+        self.u32(book.target_25);
+        for amount in [book.pcl, book.pfl, book.pcac, book.pcaf, book.orac, book.oraf] {
+            self.i64(amount);
+        }
+        self.u16(book.miss_factor);
+    }
+
+    fn year(&mut self, fields: &YearFields) {
+        self.u8(fields.number);
+        self.u32(fields.pppi);
+        self.u32(fields.rate);
+        self.u16(fields.aic);
+        self.u16(fields.pyc);
+        self.u16(fields.pyf);
+        self.u8(fields.mark as u8);
+        self.i64(fields.w);
+        self.u64(fields.line_count);
+    }
+}
+
+/// What is left of a value.
+struct Parts<'a>(&'a [u8]);
+
+impl Parts<'_> {
+    fn bytes<const N: usize>(&mut self) -> Option<[u8; N]> {
+        let taken = self.0.get(..N)?.try_into().ok()?;
+        self.0 = &self.0[N..];
+        Some(taken)
+    }
+
+    fn u8(&mut self) -> Option<u8> {
+        self.bytes::<1>().map(|bytes| bytes[0])
+    }
+
+    fn u16(&mut self) -> Option<u16> {
+        self.bytes().map(u16::from_be_bytes)
+    }
+
+    fn u32(&mut self) -> Option<u32> {
+        self.bytes().map(u32::from_be_bytes)
+    }
+
+    fn u64(&mut self) -> Option<u64> {
+        self.bytes().map(u64::from_be_bytes)
+    }
+
+    fn i64(&mut self) -> Option<i64> {
+        self.bytes().map(i64::from_be_bytes)
+    }
+
+    fn k(&mut self) -> Option<u8> {
+        self.u8().filter(|k| *k <= 4)
+    }
+
+    fn rest(&mut self) -> Vec<u8> {
+        std::mem::take(&mut self.0).to_vec()
+    }
+
+    fn outage(&mut self) -> Option<Slot> {
+        Some(Slot { start: self.u32()?, end: self.u32()?, mw: self.u16()? })
+    }
+
+    fn row(&mut self) -> Option<Row> {
+        Some(Row {
+            index: self.u32()?,
+            revenue: self.i64()?,
+            cap: self.i64()?,
+            floor: self.i64()?,
+            w: self.i64()?,
+        })
+    }
+
+    fn period(&mut self) -> Option<Period> {
+        Some(Period { first: self.u32()?, last: self.u32()? })
+    }
+
+    fn book(&mut self) -> Option<Book> {
+        Some(Book {
+            regime_end: self.u32()?,
+            target_1: self.u32()?,
+            target_25: self.u32()?,
+            pcl: self.i64()?,
+            pfl: self.i64()?,
+            pcac: self.i64()?,
+            pcaf: self.i64()?,
+            orac: self.i64()?,
+            oraf: self.i64()?,
+            miss_factor: self.u16()?,
+        })
+    }
+
+    fn year(&mut self) -> Option<YearFields> {
+        Some(YearFields {
+            number: self.u8()?,
+            pppi: self.u32()?,
+            rate: self.u32()?,
+            aic: self.u16()?,
+            pyc: self.u16()?,
+            pyf: self.u16()?,
+            mark: match self.u8()? {
+                0 => false,
+                1 => true,
+                _ => return None,
+            },
+            w: self.i64()?,
+            line_count: self.u64()?,
+        })
+    }
+}
+
+/// The next field of a script.
+pub enum Field {
+    Call(Call),
+    Malformed,
+    End,
+}
+
+/// Reads so many bytes, or those that are left.
+fn read_some(input: &mut impl Read, count: usize) -> io::Result<Vec<u8>> {
+    let mut bytes = Vec::new();
+    input.take(count as u64).read_to_end(&mut bytes)?;
+    Ok(bytes)
+}
+
+/// The next field and its length in bytes.
+pub fn next_field(input: &mut impl Read) -> io::Result<(Field, u64)> {
+    let head = read_some(input, 3)?;
+    if head.is_empty() {
+        return Ok((Field::End, 0));
+    }
+    if head.len() < 3 {
+        return Ok((Field::Malformed, 0));
+    }
+    let length = u16::from_be_bytes([head[1], head[2]]) as usize;
+    let value = read_some(input, length)?;
+    let field = match Call::decode(head[0], &value) {
+        Some(call) if value.len() == length => Field::Call(call),
+        _ => Field::Malformed,
+    };
+    Ok((field, 3 + length as u64))
+}
+
+#[cfg(test)]
+mod tests {
+    use super::*;
+    use crate::generate::Generator;
+
+    #[test]
+    fn fields_go_there_and_back() {
+        let mut generator = Generator::new(7);
+        for _ in 0..40 {
+            for (call, _) in generator.next_block().calls {
+                let field = call.encode();
+                assert_eq!(Call::decode(field[0], &field[3..]), Some(call));
+            }
+        }
+    }
+
+    #[test]
+    fn malformed_fields() {
+        assert_eq!(Call::decode(1, &[0; 3]), None);
+        assert_eq!(Call::decode(1, &[0; 5]), None);
+        assert_eq!(Call::decode(21, &[]), None);
+        assert_eq!(Call::decode(0, &[]), None);
+        assert_eq!(Call::decode(8, &[5]), None);
+        assert!(Call::decode(8, &[4]).is_some());
+        assert_eq!(Call::decode(17, &[]), None);
+        assert!(Call::decode(20, &[]).is_some());
+        assert_eq!(Call::decode(32, &[1, 144, 0, 0, 0, 0, 0, 0, 0, 0, 0, 0]), None);
+        assert!(Call::decode(32, &[1, 143, 0, 0, 0, 0, 0, 0, 0, 0, 0, 0]).is_some());
+        assert_eq!(Call::decode(36, &[0, 64, 0, 0, 0, 0, 0, 0, 0, 0, 0, 0]), None);
+    }
+}

@@ -1,0 +1,439 @@
+//! Calls as readable text, a call to a line.
+
+use crate::model::assessment::Row;
+use crate::model::book::Book;
+use crate::model::calendar::{date_of_minute, day_number, minute_of_date};
+use crate::model::log::{Slot, LAST_REGIME_END, SLOTS};
+use crate::model::settlement::Period;
+use crate::model::year::{Line, LINES};
+use crate::script::{Call, YearFields};
+
+/// The word for a tag.
+pub fn word(tag: u8) -> &'static str {
+    match tag {
+        1 => "empty",
+        2 => "enter",
+        3 => "cancel",
+        4 => "lost",
+        5 => "minutes",
+        6 => "availability",
+        7 => "target",
+        8 => "levels",
+        9 => "revenue",
+        10 => "assess",
+        11 => "period",
+        12 => "gap",
+        13 => "growth",
+        14 => "pay",
+        15 => "settle",
+        16 => "reconcile",
+        17 => "read",
+        18 => "write",
+        19 => "refile",
+        20 => "sheet",
+        32 => "set-slot",
+        33 => "set-count",
+        34 => "set-book",
+        35 => "set-year",
+        36 => "set-line",
+        37 => "fresh-year",
+        38 => "year-log",
+        39 => "take-log",
+        48 => "show-log",
+        49 => "show-year",
+        50 => "show-book",
+        51 => "show-write",
+        _ => "?",
+    }
+}
+
+/// A minute as date and time, UTC; past the last regime end as a number.
+pub fn time_words(minute: i128) -> String {
+    if !(0..=LAST_REGIME_END as i128).contains(&minute) {
+        return minute.to_string();
+    }
+    let (year, month, day, hour, rest) = date_of_minute(minute);
+    format!("{year:04}-{month:02}-{day:02} {hour:02}:{rest:02}")
+}
+
+fn hexadecimal(bytes: &[u8]) -> String {
+    bytes.iter().map(|byte| format!("{byte:02x}")).collect()
+}
+
+/// The words still to be read on a line.
+struct Words<'a> {
+    left: std::iter::Peekable<std::str::SplitWhitespace<'a>>,
+}
+
+/// The three numbers of a date such as 2024-03-31.
+fn date(text: &str) -> Option<(i128, i128, i128)> {
+    let parts: Vec<&str> = text.split('-').collect();
+    match parts[..] {
+        [year, month, day] if year.len() == 4 && month.len() == 2 && day.len() == 2 => {
+            Some((digits(year)?, digits(month)?, digits(day)?))
+        }
+        _ => None,
+    }
+}
+
+fn digits(text: &str) -> Option<i128> {
+    if text.is_empty() || !text.bytes().all(|byte| byte.is_ascii_digit()) {
+        return None;
+    }
+    text.parse().ok()
+}
+
+/// The minute of the day of a time such as 23:30.
+fn time_of_day(text: &str) -> Option<i128> {
+    let (hour, minute) = text.split_once(':')?;
+    if hour.len() != 2 || minute.len() != 2 {
+        return None;
+    }
+    let (hour, minute) = (digits(hour)?, digits(minute)?);
+    (hour < 24 && minute < 60).then_some(hour * 60 + minute)
+}
+
+impl<'a> Words<'a> {
+    fn next(&mut self, what: &str) -> Result<&'a str, String> {
+        self.left.next().ok_or(format!("{what} is missing"))
+    }
+
+    fn number<T: TryFrom<i128>>(&mut self, what: &str) -> Result<T, String> {
+        let text = self.next(what)?;
+        let number = match text.strip_prefix('-') {
+            Some(magnitude) => digits(magnitude).map(|number| -number),
+            None => digits(text),
+        };
+        let number = number.ok_or(format!("{what} is not a number: {text}"))?;
+        T::try_from(number).map_err(|_| format!("{what} is too great or too small: {text}"))
+    }
+
+    /// A number of minutes, or a date and a time.
+    fn minute(&mut self, what: &str) -> Result<u32, String> {
+        let dated = self.left.peek().and_then(|text| date(text));
+        let Some((year, month, day)) = dated else {
+            return self.number(what);
+        };
+        self.left.next();
+        let text = self.next("the time of day")?;
+        let time = time_of_day(text).ok_or(format!("{what} has no such time of day: {text}"))?;
+        let midnight = minute_of_date(year, month, day).ok_or(format!("{what} is no date"))?;
+        u32::try_from(midnight + time).map_err(|_| format!("{what} lies before 31 January 2019"))
+    }
+
+    /// A spreadsheet day number, or a date.
+    fn day(&mut self, what: &str) -> Result<u32, String> {
+        let dated = self.left.peek().and_then(|text| date(text));
+        let Some((year, month, day)) = dated else {
+            return self.number(what);
+        };
+        self.left.next();
+        let number = day_number(year, month, day).ok_or(format!("{what} has no day number"))?;
+        Ok(number as u32)
+    }
+
+    fn k(&mut self) -> Result<u8, String> {
+        match self.number("the place of the year")? {
+            k @ 0..=4 => Ok(k),
+            _ => Err("the place of the year is not 0 to 4".to_string()),
+        }
+    }
+
+    fn outage(&mut self) -> Result<Slot, String> {
+        Ok(Slot {
+            start: self.minute("the start")?,
+            end: self.minute("the end")?,
+            mw: self.number("the MW")?,
+        })
+    }
+
+    fn row(&mut self) -> Result<Row, String> {
+        Ok(Row {
+            index: self.number("the index")?,
+            revenue: self.number("the revenue")?,
+            cap: self.number("the cap")?,
+            floor: self.number("the floor")?,
+            w: self.number("W")?,
+        })
+    }
+
+    fn period(&mut self) -> Result<Period, String> {
+        Ok(Period { first: self.day("the first day")?, last: self.day("the last day")? })
+    }
+
+    /// The rest of the line as bytes.
+    fn bytes(&mut self) -> Result<Vec<u8>, String> {
+        let digits: String = self.left.by_ref().collect();
+        if digits.len() % 2 != 0 || !digits.bytes().all(|digit| digit.is_ascii_hexdigit()) {
+            return Err("the return is not in pairs of hexadecimal digits".to_string());
+        }
+        let byte = |place: usize| u8::from_str_radix(&digits[place..place + 2], 16).unwrap();
+        Ok((0..digits.len()).step_by(2).map(byte).collect())
+    }
+}
+
+/// The calls of a line: none where the line is a comment, an expected answer
+/// or blank, several where it fills a log.
+pub fn parse_line(line: &str) -> Result<Vec<Call>, String> {
+    let line = line.trim();
+    if line.is_empty() || line.starts_with('#') || line.starts_with('>') {
+        return Ok(Vec::new());
+    }
+    let mut words = Words { left: line.split_whitespace().peekable() };
+    let calls = match words.left.next_if_eq(&"fill") {
+        Some(_) => filling(&mut words)?,
+        None => vec![parse_call(&mut words)?],
+    };
+    match words.left.next() {
+        Some(extra) => Err(format!("nothing is expected here: {extra}")),
+        None if calls.iter().any(|call| call.encode().len() > 3 + u16::MAX as usize) => {
+            Err("the return is too long for a script".to_string())
+        }
+        None => Ok(calls),
+    }
+}
+
+/// `fill COUNT START STEP LENGTH MW`: so many outages entered, a step of
+/// minutes apart.
+fn filling(words: &mut Words) -> Result<Vec<Call>, String> {
+    let count: u32 = words.number("how many")?;
+    let start = words.minute("the first start")?;
+    let step: u32 = words.number("the step")?;
+    let length: u32 = words.number("the length")?;
+    let mw: u16 = words.number("the MW")?;
+    let outage = |place: u32| {
+        let start = start.checked_add(place.checked_mul(step)?)?;
+        Some(Call::Enter { outage: Slot { start, end: start.checked_add(length)?, mw } })
+    };
+    (0..count)
+        .map(|place| outage(place).ok_or_else(|| "the minutes do not fit".to_string()))
+        .collect()
+}
+
+fn parse_call(words: &mut Words) -> Result<Call, String> {
+    let year = "the year's number";
+    Ok(match words.next("the call")? {
+        "empty" => Call::Empty { regime_end: words.minute("the regime end")? },
+        "enter" => Call::Enter { outage: words.outage()? },
+        "cancel" => Call::Cancel { start: words.minute("the start")? },
+        "lost" => Call::Lost { a: words.minute("the first minute")?, b: words.minute("the end")? },
+        "minutes" => {
+            Call::Minutes { year: words.number(year)?, regime_end: words.minute("the regime end")? }
+        }
+        "availability" => Call::Availability { year: words.number(year)? },
+        "target" => Call::Target { year: words.number(year)? },
+        "levels" => Call::Levels { k: words.k()? },
+        "revenue" => Call::Revenue { k: words.k()? },
+        "assess" => {
+            let mut rows = [Row::default(); 5];
+            for row in &mut rows {
+                *row = words.row()?;
+            }
+            Call::Assess { rows }
+        }
+        "period" => Call::Period,
+        "gap" => Call::Gap { earlier: words.period()?, later: words.period()? },
+        "growth" => Call::Growth { n: words.number("n")? },
+        "pay" => Call::Pay { amount: words.number("the amount")?, n: words.number("n")? },
+        "settle" => Call::Settle {
+            adjustment: words.number("the adjustment")?,
+            earlier: words.period()?,
+            later: words.period()?,
+        },
+        "reconcile" => Call::Reconcile {
+            final_amount: words.number("the final amount")?,
+            provisional: words.number("the provisional amount")?,
+            earlier: words.period()?,
+            later: words.period()?,
+        },
+        "read" => Call::Read { k: words.k()?, bytes: words.bytes()? },
+        "write" => Call::Write { k: words.k()?, room: words.number("the room")? },
+        "refile" => Call::Refile { room: words.number("the room")?, bytes: words.bytes()? },
+        "sheet" => Call::Sheet { bytes: words.bytes()? },
+        "set-slot" => {
+            let slot = words.number("the slot")?;
+            if slot as usize >= SLOTS {
+                return Err("the slot is not 0 to 399".to_string());
+            }
+            Call::SetSlot { slot, outage: words.outage()? }
+        }
+        "set-count" => Call::SetCount {
+            count: words.number("the count")?,
+            regime_end: words.minute("the regime end")?,
+        },
+        "set-book" => Call::SetBook {
+            book: Book {
+                regime_end: words.minute("the regime end")?,
+                target_1: words.number("the target of year 1")?,
+                target_25: words.number("the target of year 25")?,
+                pcl: words.number("PCL")?,
+                pfl: words.number("PFL")?,
+                pcac: words.number("PCAC")?,
+                pcaf: words.number("PCAF")?,
+                orac: words.number("ORAC")?,
+                oraf: words.number("ORAF")?,
+                miss_factor: words.number("the factor on a miss")?,
+            },
+        },
+        "set-year" => Call::SetYear {
+            k: words.k()?,
+            fields: YearFields {
+                number: words.number(year)?,
+                pppi: words.number("PPPI")?,
+                rate: words.number("the rate")?,
+                aic: words.number("AIC")?,
+                pyc: words.number("PYC")?,
+                pyf: words.number("PYF")?,
+                mark: match words.next("the mark")? {
+                    "0" => false,
+                    "1" => true,
+                    _ => return Err("the mark is not 0 or 1".to_string()),
+                },
+                w: words.number("W")?,
+                line_count: words.number("the line count")?,
+            },
+        },
+        "set-line" => {
+            let (k, slot) = (words.k()?, words.number("the line slot")?);
+            if slot as usize >= LINES {
+                return Err("the line slot is not 0 to 63".to_string());
+            }
+            let line = Line {
+                kind: words.number("the kind")?,
+                currency: words.number("the currency")?,
+                amount: words.number("the amount")?,
+            };
+            Call::SetLine { k, slot, line }
+        }
+        "fresh-year" => Call::FreshYear { k: words.k()? },
+        "year-log" => Call::YearLog { k: words.k()? },
+        "take-log" => Call::TakeLog { k: words.k()? },
+        "show-log" => Call::ShowLog,
+        "show-year" => Call::ShowYear { k: words.k()? },
+        "show-book" => Call::ShowBook,
+        "show-write" => Call::ShowWrite { k: words.k()?, room: words.number("the room")? },
+        other => return Err(format!("no such call: {other}")),
+    })
+}
+
+fn outage_words(outage: &Slot) -> String {
+    let (start, end) = (time_words(outage.start as i128), time_words(outage.end as i128));
+    format!("{start} {end} {}", outage.mw)
+}
+
+fn days_words(earlier: &Period, later: &Period) -> String {
+    format!("{} {} {} {}", earlier.first, earlier.last, later.first, later.last)
+}
+
+/// A call's line of text.
+pub fn call_words(call: &Call) -> String {
+    let time = |minute: &u32| time_words(*minute as i128);
+    let rest = match call {
+        Call::Empty { regime_end } => time(regime_end),
+        Call::Enter { outage } => outage_words(outage),
+        Call::Cancel { start } => time(start),
+        Call::Lost { a, b } => format!("{} {}", time(a), time(b)),
+        Call::Minutes { year, regime_end } => format!("{year} {}", time(regime_end)),
+        Call::Availability { year } | Call::Target { year } => year.to_string(),
+        Call::Levels { k }
+        | Call::Revenue { k }
+        | Call::FreshYear { k }
+        | Call::YearLog { k }
+        | Call::TakeLog { k }
+        | Call::ShowYear { k } => k.to_string(),
+        Call::Assess { rows } => {
+            let row = |r: &Row| format!("{} {} {} {} {}", r.index, r.revenue, r.cap, r.floor, r.w);
+            rows.iter().map(row).collect::<Vec<_>>().join("  ")
+        }
+        Call::Period | Call::ShowLog | Call::ShowBook => String::new(),
+        Call::Gap { earlier, later } => days_words(earlier, later),
+        Call::Growth { n } => n.to_string(),
+        Call::Pay { amount, n } => format!("{amount} {n}"),
+        Call::Settle { adjustment, earlier, later } => {
+            format!("{adjustment} {}", days_words(earlier, later))
+        }
+        Call::Reconcile { final_amount, provisional, earlier, later } => {
+            format!("{final_amount} {provisional} {}", days_words(earlier, later))
+        }
+        Call::Read { k, bytes } => format!("{k} {}", hexadecimal(bytes)),
+        Call::Write { k, room } | Call::ShowWrite { k, room } => format!("{k} {room}"),
+        Call::Refile { room, bytes } => format!("{room} {}", hexadecimal(bytes)),
+        Call::Sheet { bytes } => hexadecimal(bytes),
+        Call::SetSlot { slot, outage } => format!("{slot} {}", outage_words(outage)),
+        Call::SetCount { count, regime_end } => format!("{count} {}", time(regime_end)),
+        Call::SetBook { book: b } => format!(
+            "{} {} {} {} {} {} {} {} {} {}",
+            time(&b.regime_end),
+            b.target_1,
+            b.target_25,
+            b.pcl,
+            b.pfl,
+            b.pcac,
+            b.pcaf,
+            b.orac,
+            b.oraf,
+            b.miss_factor,
+        ),
+        Call::SetYear { k, fields: y } => format!(
+            "{k} {} {} {} {} {} {} {} {} {}",
+            y.number, y.pppi, y.rate, y.aic, y.pyc, y.pyf, y.mark as u8, y.w, y.line_count,
+        ),
+        Call::SetLine { k, slot, line } => {
+            format!("{k} {slot} {} {} {}", line.kind, line.currency, line.amount)
+        }
+    };
+    format!("{} {rest}", word(call.tag())).trim_end().to_string()
+}
+
+#[cfg(test)]
+mod tests {
+    use super::*;
+    use crate::generate::Generator;
+
+    #[test]
+    fn words_go_there_and_back() {
+        let mut generator = Generator::new(3);
+        for _ in 0..40 {
+            for (call, _) in generator.next_block().calls {
+                assert_eq!(parse_line(&call_words(&call)), Ok(vec![call]));
+            }
+        }
+    }
+
+    #[test]
+    fn dates_and_numbers() {
+        let dated = parse_line("enter 2019-01-31 23:30 2019-02-01 01:30 500");
+        assert_eq!(dated, parse_line("enter 1410 1530 500"));
+        assert_eq!(dated.unwrap().len(), 1);
+        assert_eq!(
+            parse_line("gap 2023-01-01 2023-12-31 2024-04-01 2025-03-31"),
+            parse_line("gap 44927 45291 45383 45747"),
+        );
+        assert_eq!(parse_line("# enter"), Ok(vec![]));
+        assert_eq!(parse_line("fill 2 0 10 5 1").map(|calls| calls.len()), Ok(2));
+        assert_eq!(parse_line(""), Ok(vec![]));
+    }
+
+    #[test]
+    fn wrong_lines() {
+        for line in [
+            "entre 1 2 3",
+            "enter 1 2",
+            "enter 1 2 3 4",
+            "enter 2019-01-30 23:30 5 3",
+            "enter 2019-02-29 23:30 5 3",
+            "enter 2019-02-28 24:00 5 3",
+            "cancel -1",
+            "growth 4294967296",
+            "levels 5",
+            "read 0 123",
+            "read 0 zz",
+            "set-slot 400 1 2 3",
+            "set-line 0 64 1 0 5",
+            "set-year 0 1 1 1 1 1 1 2 0 0",
+            "gap 1900-02-28 61 61 61",
+        ] {
+            assert!(parse_line(line).is_err(), "{line}");
+        }
+    }
+}
