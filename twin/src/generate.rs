@@ -1,12 +1,12 @@
 //! Scripts made from a seed, biased to edges, in blocks that stand alone.
 
+mod anything;
 mod assessments;
 mod logs;
 mod random;
 mod records;
 mod returns;
 mod settlements;
-mod soup;
 mod values;
 
 use crate::desk::Desk;
@@ -51,7 +51,7 @@ impl Generator {
             17 | 18 => self.block("period", Generator::period_work),
             19 => self.block("settlement", Generator::settlement_work),
             20..=22 => self.return_block(),
-            _ => self.block("anything", Generator::soup_work),
+            _ => self.block("anything", Generator::any_work),
         }
     }
 
@@ -120,7 +120,7 @@ impl Generator {
 
     /// A field whose length is not that of its tag, or a field that is cut.
     fn wrong_length(&mut self) -> Vec<u8> {
-        let mut block = self.block("anything", Generator::soup_work);
+        let mut block = self.block("anything", Generator::any_work);
         block.calls.retain(|(call, _)| ![17, 19, 20].contains(&call.tag()));
         let (call, _) = self.random.pick(&block.calls);
         let mut field = call.encode();

@@ -6,7 +6,7 @@ use crate::model::assessment::Row;
 use crate::model::book::Book;
 use crate::model::log::{Slot, SLOTS};
 use crate::model::settlement::Period;
-use crate::model::year::{Line, LINES};
+use crate::model::year::{Line, Year, LINES};
 
 /// A year but for its lines and its log, as tag 35 sets it.
 #[derive(Clone, Debug, PartialEq, Eq)]
@@ -20,6 +20,22 @@ pub struct YearFields {
     pub mark: bool,
     pub w: i64,
     pub line_count: u64,
+}
+
+impl YearFields {
+    pub fn of(year: &Year) -> YearFields {
+        YearFields {
+            number: year.number,
+            pppi: year.pppi,
+            rate: year.rate,
+            aic: year.aic,
+            pyc: year.pyc,
+            pyf: year.pyf,
+            mark: year.mark,
+            w: year.w,
+            line_count: year.line_count,
+        }
+    }
 }
 
 /// A call; k is the place of a year, 0 to 4.

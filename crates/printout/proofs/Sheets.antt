@@ -1,23 +1,21 @@
 -- The figures of a year that was read, and that what is printed of it has room. Assumes nothing.
 use mathlib.Core.Path.{_≡_, refl, sym, ap, _∙_}
 use mathlib.Core.Bool.{Bool, true, false, cond, not, _&&_}
-use mathlib.Core.List.{List, [], _∷_, _++_}
-use Prim.Native.Nat.{ℕ, zero, suc, _+_, _-_, _*_, _^_, _≤_, _<_}
+use mathlib.Core.List.{List, []}
+use Prim.Native.Nat.{ℕ, zero, suc, _+_, _-_, _^_, _≤_, _<_}
 use native.Mathlib.Nat.{not-suc-le-zero}
 use native.Mathlib.Omega.{arith}
 use borrow.Author.Tests.{leb-true, eqb-true, eq-eqb, ne-eqb}
 use lib.Dec.{leb, eqb}
 use lib.IntN.{ℤ, pos, natAbs}
 use lib.ListN.{length, length-append}
-use Rattle.lists.specs.Lists.{all}
 use Rattle.lists.proofs.Tests.{and-left, and-right, not-no}
 use Rattle.refusals.specs.Refusals.{accepted, lowest, numberOf}
 use Rattle.refusals.specs.declared.Refusal.{Refusal}
 use Rattle.refusals.proofs.Laws.{all-clear, never-zero}
 use Rattle.calendar.specs.Years.{isLeap, daysIn, daysTo, yearStart, yearEnd, lastYear, goodYear, firstOf, endOf}
 use Rattle.calendar.proofs.Laws.{year-two, last-start, year-within}
-use Rattle.outage.specs.declared.Log.{Log}
-use Rattle.outage.specs.Log.{lastRegimeEnd, validLog, live, lostEnergy}
+use Rattle.outage.specs.Log.{lastRegimeEnd}
 use Rattle.outage.specs.Calls.{lostOf}
 use Rattle.outage.proofs.Most.{lost-given, valid-stretch}
 use Rattle.year.specs.declared.Year.{Year}
@@ -26,11 +24,11 @@ use Rattle.revenue.specs.declared.Revenue.the-variants.{Pounds, Refused}
 use Rattle.revenue.specs.Revenue.{assessedRevenue, revenueRows}
 use Rattle.revenue.proofs.Only.{RevenueGives}
 use Rattle.text.specs.declared.Text.{Text}
-use Rattle.text.specs.Text.{decimal, signedDecimal, pushed, room, textOf}
+use Rattle.text.specs.Text.{pushed, room, textOf}
 use Rattle.text.proofs.Laws.{digits-few, signed-few, pushed-text}
 use Rattle.codec.specs.Numbers.{Bytes}
-use Rattle.filing.specs.Form.{startsIn}
-use Rattle.filing.specs.Return.{Reading, whole, refused, readingOf, isRefused, readRows, readYear, fileable, validYear}
+use Rattle.filing.specs.Return.{Reading, whole, refused, readingOf, isRefused, readRows, readYear, validYear}
+use Rattle.round_trip.proofs.Years.{log-valid, year-record, to-end}
 use Rattle.round_trip.proofs.RoundTrip.{read-valid}
 use Rattle.printout.specs.Printout.{lostInYear, lostAfter, sheetOf, refusalOf, printedYear, printed}
 
@@ -50,22 +48,10 @@ year-long (suc (suc n)) h = omega (arith, days-most (2019 + suc n))
 
 -- ---- a valid year
 module _ (y : Year) (v : validYear y ≡ true) where
-  log-valid : validLog (y .log) ≡ true
-  log-valid = and-left (validLog (y .log)) (fileable y) v
-
-  abbrev fitting : Bool
-  fitting = eqb (y .log .«regime_end») lastRegimeEnd && all (startsIn (y .number)) (live (y .log))
-
-  good-record : goodYearRecord y ≡ true
-  good-record = and-left (goodYearRecord y) fitting (and-right (validLog (y .log)) (fileable y) v)
-
-  to-end : y .log .«regime_end» ≡ lastRegimeEnd
-  to-end = eqb-true (y .log .«regime_end») lastRegimeEnd (and-left (eqb (y .log .«regime_end») lastRegimeEnd) (all (startsIn (y .number)) (live (y .log))) (and-right (goodYearRecord y) fitting (and-right (validLog (y .log)) (fileable y) v)))
-
   pub number-good : goodYear (y .number) ≡ true
   number-good =
       and-left (goodYear (y .number)) (goodPppi (y .pppi) && (goodRate (y .rate) && (leb (y .aic) 20000 && (leb (y .pyc) 10000 && leb (y .pyf) 10000))))
-      (and-left (goodFactors (y .number) (y .pppi) (y .rate) (y .aic) (y .pyc) (y .pyf)) (goodAmount (y .within) && goodLines (y .lines) (y .«line_count»)) good-record)
+      (and-left (goodFactors (y .number) (y .pppi) (y .rate) (y .aic) (y .pyc) (y .pyf)) (goodAmount (y .within) && goodLines (y .lines) (y .«line_count»)) (year-record y v))
 
   from-one : 1 ≤ y .number
   from-one = leb-true 1 (y .number) (and-left (leb 1 (y .number)) (leb (y .number) lastYear) number-good)
@@ -91,10 +77,10 @@ module _ (y : Year) (v : validYear y ≡ true) where
 
   -- what the log gives for it
   pub lost-is : lostOf (y .log) first end ≡ lostInYear y
-  lost-is = sym (lost-given (y .log) first end log-valid (inside .0) (rw to-end (inside .1)) .1)
+  lost-is = sym (lost-given (y .log) first end (log-valid y v) (inside .0) (rw (to-end y v) (inside .1)) .1)
 
   pub after-is : lostOf (y .log) end lastRegimeEnd ≡ lostAfter y
-  after-is = sym (lost-given (y .log) end lastRegimeEnd log-valid (inside .1) (rw to-end (omega arith)) .1)
+  after-is = sym (lost-given (y .log) end lastRegimeEnd (log-valid y v) (inside .1) (rw (to-end y v) (omega arith)) .1)
 
   -- ---- its four lines have room
   long : (t : Bool) → eqb (y .number) lastYear ≡ t → cond t lastRegimeEnd (yearStart (suc (y .number))) ≤ first + 1052640
@@ -102,10 +88,10 @@ module _ (y : Year) (v : validYear y ≡ true) where
   long false e = omega (arith, year-long (y .number) from-one)
 
   lost-small : lostInYear y < 10 ^ 10
-  lost-small = omega (arith, valid-stretch (y .log) log-valid first end, long (eqb (y .number) lastYear) refl)
+  lost-small = omega (arith, valid-stretch (y .log) (log-valid y v) first end, long (eqb (y .number) lastYear) refl)
 
   after-small : lostAfter y < 10 ^ 11
-  after-small = omega (arith, valid-stretch (y .log) log-valid end lastRegimeEnd)
+  after-small = omega (arith, valid-stretch (y .log) (log-valid y v) end lastRegimeEnd)
 
   sheet-room : (z : ℤ) → natAbs z < 10 ^ 10 → length (sheetOf (y .number) (lostInYear y) (lostAfter y) z) ≤ 64
   unfolding sheetOf

@@ -1,11 +1,10 @@
 -- What is read is written again as it was. Assumes nothing.
-use mathlib.Core.Path.{_≡_, refl, sym, ap, _∙_}
+use mathlib.Core.Path.{_≡_, refl, ap, _∙_}
 use mathlib.Core.Bool.{Bool, true, false, cond}
-use mathlib.Core.List.{List, [], _∷_}
+use mathlib.Core.List.{List}
 use Prim.Native.Nat.{ℕ}
 use native.Mathlib.Nat.{not-suc-le-zero}
 use native.Mathlib.Omega.{arith}
-use lib.ListN.{length}
 use Rattle.lists.proofs.Tests.{and-left, and-right}
 use Rattle.refusals.specs.declared.Refusal.{Refusal}
 use Rattle.refusals.specs.Refusals.{lowest, numberOf}
@@ -13,7 +12,7 @@ use Rattle.refusals.proofs.Laws.{never-zero}
 use Rattle.outage.specs.Log.{validLog}
 use Rattle.year.specs.declared.Year.{Year}
 use Rattle.codec.specs.Numbers.{Bytes}
-use Rattle.filing.specs.Return.{Reading, isRefused, readingOf, readRows, readYear, fileable, validYear, returnOf}
+use Rattle.filing.specs.Return.{isRefused, readingOf, readRows, readYear, fileable, validYear, returnOf}
 use Rattle.writing.specs.declared.Written.{Written}
 use Rattle.writing.specs.declared.Written.the-variants.{Refused}
 use Rattle.writing.proofs.Only.{WriteGives}

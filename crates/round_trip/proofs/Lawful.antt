@@ -1,25 +1,23 @@
 -- The format of the return keeps the laws of its parts. Assumes nothing.
-use mathlib.Core.Path.{_≡_, refl, sym, ap, _∙_}
-use mathlib.Core.Bool.{Bool, true, false, not, _&&_, _||_}
-use mathlib.Core.List.{List, [], _∷_, _++_}
-use Prim.Native.Nat.{ℕ, suc, _+_, _*_, _≤_}
+use mathlib.Core.Path.{_≡_, refl, ap}
+use mathlib.Core.Bool.{true, false, not, _&&_}
+use mathlib.Core.List.{List}
+use Prim.Native.Nat.{ℕ, suc}
 use native.Mathlib.Omega.{arith}
-use borrow.Author.Tests.{eqb-true, eq-eqb, leb-true}
+use borrow.Author.Tests.{eqb-true, leb-true}
 use lib.Dec.{leb, eqb}
 use lib.IntN.{ℤ, pos, negsuc, natAbs}
-use lib.ListN.{length, length-append}
 use Rattle.lists.proofs.Tests.{and-left, and-right, not-yes}
 use Rattle.outage.specs.declared.Entry.{Entry}
 use Rattle.outage.specs.Log.{slots}
 use Rattle.year.specs.declared.Line.{Line}
 use Rattle.year.specs.Year.{goodLine, lineSlots}
-use Rattle.codec.specs.Format.{num, int, pair, such, mapped, tagged, fieldOf, Codec, one, opt, unless, texts, allFine, many, both}
+use Rattle.codec.specs.Format.{num, int, pair, tagged}
 use Rattle.codec.proofs.Values.{ValueLaws, num-laws, int-laws, pair-laws, mapped-laws, such-laws}
 use Rattle.codec.proofs.Items.{ItemLaws, tagged-laws}
 use Rattle.codec.proofs.Formats.{Lawful, one-lawful, opt-lawful, many-lawful, both-lawful}
 use Rattle.codec.proofs.Places.{Placed, one-placed, opt-placed, many-placed, both-placed}
-use Rattle.codec.proofs.Lengths.{field-length, unless-length, texts-length}
-use Rattle.filing.specs.Form.{yearValue, pppiValue, rateValue, aicValue, leftOut, isLeftOut, factorsValue, toLine, fromLine, lineLayout, lineValue, toEntry, fromEntry, entryLayout, mayFollow, entryValue, markValue, isNone, withinValue, lineItem, entryItem, factors, lines, outages, mark, within, Parts, form}
+use Rattle.filing.specs.Form.{yearValue, pppiValue, rateValue, aicValue, leftOut, isLeftOut, factorsValue, toLine, fromLine, lineLayout, lineValue, toEntry, fromEntry, entryLayout, mayFollow, entryValue, markValue, isNone, withinValue, lineItem, entryItem, factors, mark, within, form}
 
 -- ---- values
 pub line-laws : ValueLaws lineValue
@@ -81,7 +79,7 @@ left-out-is number f h =
     let g : f .1 ≡ leftOut number .1 = eqb-true (f .1) (leftOut number .1) (and-right (eqb (f .0) (leftOut number .0)) (eqb (f .1) (leftOut number .1)) h) in
     λ i. (e i, g i)
 
-none-is : (z : ℤ) → isNone z ≡ true → z ≡ pos 0
+pub none-is : (z : ℤ) → isNone z ≡ true → z ≡ pos 0
 none-is (pos k) h = ap pos (eqb-true k 0 h)
 none-is (negsuc k) h = absurd (omega (arith, eqb-true (suc k) 0 h))
 

@@ -1,13 +1,12 @@
 -- 13 is given exactly where no valid year writes these bytes. The bytes before its place are whole fields that begin some
 -- valid return, and no valid return goes on there with the field, or the end, that was found. Assumes nothing.
 use mathlib.Core.Path.{_≡_, refl, sym, ap, subst, _∙_}
-use mathlib.Core.Bool.{Bool, true, false, cond}
+use mathlib.Core.Bool.{true, cond}
 use mathlib.Core.List.{List, [], _∷_, _++_, append-nil}
 use Prim.Native.Nat.{ℕ, _+_, _-_, _≤_}
 use native.Mathlib.Nat.{not-suc-le-zero}
 use native.Mathlib.Omega.{arith}
 use borrow.Author.Tests.{le-leb}
-use lib.Dec.{leb}
 use lib.ListN.{length, take, drop, replicate, length-append, length-replicate}
 use lib.Seq.{take-at, drop-at}
 use Rattle.lists.specs.Lists.{all}
@@ -19,13 +18,13 @@ use Rattle.year.specs.Year.{lineSlots, zeroLine}
 use Rattle.codec.specs.Numbers.{Bytes}
 use Rattle.codec.specs.Fields.{isWhole, joined}
 use Rattle.codec.specs.Format.{Res, got, stuck}
-use Rattle.codec.proofs.Places.{restOf, moved, SameField, Placed, Begun}
+use Rattle.codec.proofs.Places.{restOf, moved, SameField}
 use Rattle.filing.specs.Form.{Parts, form}
 use Rattle.filing.specs.Return.{yearOf, partsOf, mostBytes, Reading, whole, refused, finish, readingOf, isRefused, readRows, validYear, returnOf}
 use Rattle.outage.proofs.Holding.{holding-slots}
 use Rattle.round_trip.proofs.Lawful.{form-lawful, form-placed}
-use Rattle.round_trip.proofs.Years.{Fine, fine, parts-valid, parts-back}
-use Rattle.round_trip.proofs.RoundTrip.{all-read, written-read, found, read-written}
+use Rattle.round_trip.proofs.Years.{fine, parts-valid, parts-back}
+use Rattle.round_trip.proofs.RoundTrip.{all-read, written-read, found}
 
 -- bytes are the return of a valid year, which has its 64 line slots and 400 entry slots
 pub record Files (y : Year) (bs : List ℕ) : Type 0 where

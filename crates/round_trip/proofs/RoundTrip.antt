@@ -1,25 +1,23 @@
 -- Demand 2: "A return that is read and written again gives its own bytes, and a valid year that is written reads back as
 -- itself." And 13 is given exactly where no valid year writes these bytes. Assumes nothing.
-use mathlib.Core.Path.{_≡_, refl, sym, ap, subst, _∙_}
-use mathlib.Core.Bool.{Bool, true, false, cond, _&&_, _||_}
-use mathlib.Core.List.{List, [], _∷_, _++_, append-nil}
-use Prim.Native.Nat.{ℕ, _+_, _-_, _*_, _≤_, _<_}
+use mathlib.Core.Path.{_≡_, refl, sym, ap, _∙_}
+use mathlib.Core.Bool.{Bool, true, false, cond}
+use mathlib.Core.List.{List, [], _∷_, append-nil}
+use Prim.Native.Nat.{ℕ, _-_, _*_, _≤_}
 use native.Mathlib.Nat.{not-suc-le-zero}
 use native.Mathlib.Omega.{arith}
-use borrow.Author.Tests.{le-leb, leb-true}
+use borrow.Author.Tests.{le-leb}
 use lib.Dec.{leb, eqb}
 use lib.ListN.{length, length-append}
 use Rattle.refusals.specs.Refusals.{lowest}
-use Rattle.outage.specs.declared.Entry.{Entry}
 use Rattle.outage.specs.Log.{slots}
-use Rattle.year.specs.declared.Line.{Line}
 use Rattle.year.specs.declared.Year.{Year}
 use Rattle.year.specs.Year.{lineSlots}
 use Rattle.codec.specs.Numbers.{Bytes}
 use Rattle.codec.specs.Format.{fieldOf, unless, Res, got, stuck, texts}
 use Rattle.codec.proofs.Values.{num-laws}
 use Rattle.codec.proofs.Lengths.{field-length, unless-length, texts-length}
-use Rattle.filing.specs.Form.{yearValue, pppiValue, rateValue, aicValue, isLeftOut, factorsValue, lineValue, entryValue, markValue, isNone, withinValue, lineItem, entryItem, factors, mark, within, Parts, form}
+use Rattle.filing.specs.Form.{yearValue, pppiValue, rateValue, aicValue, isLeftOut, factorsValue, lineValue, entryValue, markValue, isNone, withinValue, lineItem, entryItem, Parts, form}
 use Rattle.filing.specs.Return.{yearOf, partsOf, mostBytes, Reading, whole, refused, finish, readingOf, isRefused, yearIn, readRows, readYear, validYear, returnOf}
 use Rattle.round_trip.proofs.Lawful.{line-laws, entry-laws, factors-laws, within-laws, form-lawful}
 use Rattle.round_trip.proofs.Years.{Fine, fine, fine-made, year-fine, year-back, parts-valid, parts-back, or-second}

@@ -1,21 +1,20 @@
 -- A valid year is one whose parts the format may write, and a year is made of its parts. Assumes nothing.
 use mathlib.Core.Path.{_≡_, refl, sym, ap, _∙_}
 use mathlib.Core.Bool.{Bool, true, false, cond, not, _&&_, _||_}
-use mathlib.Core.List.{List, [], _∷_, _++_, append-assoc, append-nil}
-use Prim.Native.Nat.{ℕ, zero, suc, _+_, _-_, _≤_, _<_}
+use mathlib.Core.List.{List, [], _∷_, _++_, append-nil}
+use Prim.Native.Nat.{ℕ, zero, suc, _+_, _-_, _≤_}
 use native.Mathlib.Omega.{arith}
-use borrow.Author.Tests.{eqb-true, eq-eqb, leb-true, le-leb}
+use borrow.Author.Tests.{eqb-true, leb-true, le-leb}
 use lib.Dec.{leb, eqb}
-use lib.IntN.{ℤ, pos, negsuc, natAbs}
+use lib.IntN.{ℤ, natAbs}
 use lib.Signed.{nonNeg}
-use lib.ListN.{length, take, drop, replicate, length-append, length-drop, take-append-drop, length-replicate}
+use lib.ListN.{length, take, drop, replicate, length-drop, take-append-drop}
 use lib.Seq.{length-take-le, take-append-seam, drop-append-seam, append-snoc}
 use Rattle.lists.specs.Lists.{all}
-use Rattle.lists.proofs.Tests.{and-left, and-right, and-made, same-test}
+use Rattle.lists.proofs.Tests.{and-left, and-right, and-made}
 use Rattle.calendar.specs.Years.{goodYear}
 use Rattle.outage.specs.declared.Entry.{Entry}
-use Rattle.outage.specs.declared.Log.{Log}
-use Rattle.outage.specs.Log.{slots, lastRegimeEnd, goodRegimeEnd, goodEntry, validEntries, validLog, live, holding, zeroEntry}
+use Rattle.outage.specs.Log.{slots, lastRegimeEnd, goodEntry, validEntries, validLog, live, holding}
 use Rattle.outage.proofs.Order.{Kept, kept-says, kept-made, follows, follows-valid, good-span, good-end, good-most}
 use Rattle.outage.proofs.Holding.{Valid, valid-says, live-length, holds, holding-live, holding-valid}
 use Rattle.year.specs.declared.Line.{Line}
@@ -24,6 +23,7 @@ use Rattle.year.specs.Year.{goodPppi, goodRate, goodAmount, goodFactors, either
 use Rattle.codec.specs.Format.{num, pair, allFine}
 use Rattle.filing.specs.Form.{yearValue, pppiValue, rateValue, aicValue, isLeftOut, factorsValue, lineLayout, lineValue, entryLayout, startsIn, mayFollow, entryValue, isNone, withinValue, lineItem, entryItem, factors, lines, outages, mark, within, Parts, form}
 use Rattle.filing.specs.Return.{padded, yearOf, partsOf, fileable, validYear}
+use Rattle.round_trip.proofs.Lawful.{none-is}
 
 -- ---- the parts of what the format may write
 pub record Fine (p : Parts) : Type 0 where
@@ -202,10 +202,6 @@ within-small z h =
 line-made : {k k′ c c′ : ℕ} {a a′ : ℤ} → k ≡ k′ → c ≡ c′ → a ≡ a′ → _≡_ {A = Line} (record { kind = k; currency = c; amount = a }) (record { kind = k′; currency = c′; amount = a′ })
 line-made p q r = cc
 
-pub none-is : (z : ℤ) → isNone z ≡ true → z ≡ pos 0
-none-is (pos k) h = ap pos (eqb-true k 0 h)
-none-is (negsuc k) h = absurd (omega (arith, eqb-true (suc k) 0 h))
-
 zero-line : (l : Line) → isZeroLine l ≡ true → l ≡ zeroLine
 zero-line l z =
     let a = eqb (l .kind) 0 in
@@ -233,7 +229,7 @@ module _ (y : Year) (v : validYear y ≡ true) where
   abbrev lined : Bool
   lined = goodLines (y .lines) (y .«line_count»)
 
-  log-valid : validLog (y .log) ≡ true
+  pub log-valid : validLog (y .log) ≡ true
   log-valid = and-left (validLog (y .log)) (fileable y) v
 
   filed : fileable y ≡ true
@@ -242,10 +238,10 @@ module _ (y : Year) (v : validYear y ≡ true) where
   fits : (eqb (y .log .«regime_end») lastRegimeEnd && all (startsIn (y .number)) (live (y .log))) ≡ true
   fits = and-right (goodYearRecord y) (eqb (y .log .«regime_end») lastRegimeEnd && all (startsIn (y .number)) (live (y .log))) filed
 
-  year-record : goodYearRecord y ≡ true
+  pub year-record : goodYearRecord y ≡ true
   year-record = and-left (goodYearRecord y) (eqb (y .log .«regime_end») lastRegimeEnd && all (startsIn (y .number)) (live (y .log))) filed
 
-  to-end : y .log .«regime_end» ≡ lastRegimeEnd
+  pub to-end : y .log .«regime_end» ≡ lastRegimeEnd
   to-end = eqb-true (y .log .«regime_end») lastRegimeEnd (and-left (eqb (y .log .«regime_end») lastRegimeEnd) (all (startsIn (y .number)) (live (y .log))) fits)
 
   log-parts : Valid slots (y .log .entries) (y .log .count) (y .log .«regime_end»)

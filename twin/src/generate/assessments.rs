@@ -180,17 +180,7 @@ impl Generator {
     fn period_change(&mut self, first: u8) {
         let k = self.any_k();
         let year = self.desk.years[k as usize].clone();
-        let mut fields = YearFields {
-            number: year.number,
-            pppi: year.pppi,
-            rate: year.rate,
-            aic: year.aic,
-            pyc: year.pyc,
-            pyf: year.pyf,
-            mark: year.mark,
-            w: year.w,
-            line_count: year.line_count,
-        };
+        let mut fields = YearFields::of(&year);
         let before = fields.clone();
         match self.random.below(9) {
             0 => fields.number = self.random.pick(&[first, first + 1, first + 4, first + 5, 0]),

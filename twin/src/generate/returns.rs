@@ -63,17 +63,7 @@ impl Generator {
     /// A year that was read, changed in one thing and written.
     fn change_and_write(&mut self, k: u8) {
         let year = self.desk.years[k as usize].clone();
-        let mut fields = YearFields {
-            number: year.number,
-            pppi: year.pppi,
-            rate: year.rate,
-            aic: year.aic,
-            pyc: year.pyc,
-            pyf: year.pyf,
-            mark: year.mark,
-            w: year.w,
-            line_count: year.line_count,
-        };
+        let mut fields = YearFields::of(&year);
         match self.random.below(6) {
             0 => fields.number = fields.number % 25 + 1,
             1 => self.random.spoil_fields(&mut fields),

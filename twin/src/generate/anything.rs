@@ -9,7 +9,7 @@ use crate::model::year::Line;
 use crate::script::{Call, YearFields};
 
 impl Generator {
-    pub fn soup_work(&mut self) {
+    pub fn any_work(&mut self) {
         for _ in 0..60 {
             let call = self.any_call();
             self.call(call);
