@@ -15,6 +15,8 @@ use crate::words::{call_words, parse_line, word};
 
 /// Where the script of a difference is written.
 const DIFFERENCE: &str = "target/twin-difference.script";
+/// How many wrong figures are shown one by one.
+const SHOWN_DIFFERENCES: usize = 10;
 
 /// Whether all went well; an `Err` says what did not.
 type Outcome = Result<bool, String>;
@@ -355,6 +357,9 @@ pub fn figures(path: &str, command: &[String]) -> Outcome {
         let Some(expected) = expected.get(place) else { continue };
         if !as_expected(expected, found) {
             differences += 1;
+            if differences > SHOWN_DIFFERENCES {
+                continue;
+            }
             println!("line {}: {}", place + 1, shown(&call_words(call)));
             println!("  expected: {expected}");
             println!("  program:  {}", shown(found));
