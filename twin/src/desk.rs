@@ -56,9 +56,9 @@ fn number_of(answer: Result<(), Refusal>) -> Refusal {
     answer.err().unwrap_or(0)
 }
 
-/// The buffer that is lent: byte i is i mod 251.
+/// The buffer that is lent: byte i is 255 less i mod 251.
 fn lent_buffer(room: u16) -> Vec<u8> {
-    (0..room as usize).map(|i| (i % 251) as u8).collect()
+    (0..room as usize).map(|i| (255 - i % 251) as u8).collect()
 }
 
 fn log_numbers(log: &Log) -> Vec<i128> {
@@ -318,6 +318,6 @@ mod tests {
         let mut desk = Desk::new();
         assert!(desk.carry_out(&Call::Write { k: 0, room: 23 }).starts_with("0 23 "));
         assert!(desk.carry_out(&Call::Write { k: 0, room: 22 }).starts_with("14 0 "));
-        assert_eq!(desk.carry_out(&Call::ShowWrite { k: 0, room: 3 }), "14 0 0 1 2");
+        assert_eq!(desk.carry_out(&Call::ShowWrite { k: 0, room: 3 }), "14 0 255 254 253");
     }
 }

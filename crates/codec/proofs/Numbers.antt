@@ -8,7 +8,7 @@ use mathlib.Core.Bool.{Bool, true, false, _&&_}
 use native.Mathlib.Omega.{arith}
 use mathlib.Core.List.{List, [], _∷_, _++_, append-assoc, append-nil}
 use lib.ListN.{length, getD, take, drop, set, length-append, length-drop}
-use lib.Seq.{take-suc, getD-drop, drop-drop, sets}
+use lib.Seq.{take-suc, getD-drop, drop-drop, set-comm, sets}
 use Rattle.codec.specs.Numbers.{spelled, bytesOf, Bytes}
 use Rattle.codec.specs.Fields.{framed, head}
 
@@ -66,12 +66,19 @@ sets-append l i (x ∷ a) b =
 pub sets-at : (l : List ℕ) (i : ℕ) (a b : List ℕ) (n : ℕ) → length a ≡ n → sets (sets l i a) (i + n) b ≡ sets l i (a ++ b)
 sets-at l i a b n e = rw (← e) (sets-append l i a b)
 
-pub sets-bytes : (l : List ℕ) (i n v : ℕ) → 0 < n → set (sets l i (bytesOf (n - 1) (v / 256))) (i + (n - 1)) (v % 256) ≡ sets l i (bytesOf n v)
+-- a store past a run of stores may come before it
+sets-past : (l : List ℕ) (i : ℕ) (a : List ℕ) (j x : ℕ) → i + length a ≤ j → sets (set l j x) i a ≡ set (sets l i a) j x
+sets-past l i [] j x h = refl
+sets-past l i (y ∷ a) j x h = rw (set-comm l j i x y (λ e. omega arith)) (sets-past (set l i y) (suc i) a j x (omega arith))
+
+-- the lowest byte, and then the bytes of the rest before it
+pub sets-bytes : (l : List ℕ) (i n v : ℕ) → 0 < n → sets (set l (i + (n - 1)) (v % 256)) i (bytesOf (n - 1) (v / 256)) ≡ sets l i (bytesOf n v)
 unfolding bytesOf
 sets-bytes l i zero v h = absurd (omega arith)
 sets-bytes l i (suc k) v h =
     let e : suc k - 1 ≡ k = omega arith in
-    rw e (sets-at l i (bytesOf k (v / 256)) (v % 256 ∷ []) k (bytes-length k (v / 256)))
+    let n = bytes-length k (v / 256) in
+    rw (e, sets-past l i (bytesOf k (v / 256)) (i + k) (v % 256) (omega arith)) (sets-at l i (bytesOf k (v / 256)) (v % 256 ∷ []) k n)
 
 pub framed-short : (tag len : ℕ) (l : List ℕ) → length l < 3 → framed tag len l ≡ false
 unfolding framed

@@ -1,11 +1,11 @@
 // Tagged fields in the caller's bytes: document 01, "The yearly return". A slice and a place go in; where the bytes are not
 // there, or there is no room, the answer says so and nothing is written.
-mod writing;
+mod laying;
 
+pub use laying::put;
+pub use laying::put_head;
+pub use laying::unsigned;
 use money::within;
-pub use writing::put;
-pub use writing::put_head;
-pub use writing::unsigned;
 ghost use mathlib.Core.Path.{_≡_};
 ghost use Prim.Native.Nat.{_+_, _≤_};
 ghost use lib.ListN.{drop, length, take};

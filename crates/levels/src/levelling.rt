@@ -16,16 +16,13 @@ ghost use mathlib.Core.Bool.{true};
 ghost use Prim.Native.Nat.{_≤_};
 ghost use lib.IntN.{natAbs};
 ghost use Rattle.refusals.specs.Refusals.{lowest};
-ghost use Rattle.year.specs.Year.{goodYearRecord};
-ghost use Rattle.levels.specs.Book.{goodBook};
+ghost use Rattle.levels.specs.Book.{capSum, floorSum, goodBook};
 ghost use Rattle.levels.specs.Levels.{
   aifOf,
   capFigure,
   capGiven,
-  capLevel,
   floorFigure,
   floorGiven,
-  floorLevel,
   levelOf,
   levelsNumber,
   levelsRows,
@@ -76,22 +73,22 @@ fn aif(met: bool, exceptional: bool, miss_factor: u16) -> u16
 }
 
 // The cap of a year that is in range, SC2 4(a).
-fn cap_of(book: Book, y: Year) -> i64
-    requires { ⌜ (goodBook book ≡ true) × (goodYearRecord y ≡ true) ⌝ }
-    ensures { λ r. ⌜ r ≡ capLevel book y ⌝ }
+fn cap_of(book: Book, pyc: u16, aic: u16, pppi: u32) -> i64
+    requires { ⌜ (goodBook book ≡ true) × (pyc ≤ 10000) × (aic ≤ 20000) × (pppi ≤ 50000) ⌝ }
+    ensures { λ r. ⌜ r ≡ levelOf pyc (capSum book) aic pppi ⌝ }
 {
     let sum = sum_of(book.pcl, book.pcac, book.orac);
-    level(y.pyc, sum, y.aic, y.pppi)
+    level(pyc, sum, aic, pppi)
 }
 
 // The floor of a year that is in range, SC2 4(b).
-fn floor_of(book: Book, y: Year, met: bool) -> i64
-    requires { ⌜ (goodBook book ≡ true) × (goodYearRecord y ≡ true) ⌝ }
-    ensures { λ r. ⌜ r ≡ floorLevel book y (aifOf met (y .exceptional) (book .«miss_factor»)) ⌝ }
+fn floor_of(book: Book, pyf: u16, pppi: u32, exceptional: bool, met: bool) -> i64
+    requires { ⌜ (goodBook book ≡ true) × (pyf ≤ 10000) × (pppi ≤ 50000) ⌝ }
+    ensures { λ r. ⌜ r ≡ levelOf pyf (floorSum book) (aifOf met exceptional (book .«miss_factor»)) pppi ⌝ }
 {
     let sum = sum_of(book.pfl, book.pcaf, book.oraf);
-    let incentive = aif(met, y.exceptional, book.miss_factor);
-    level(y.pyf, sum, incentive, y.pppi)
+    let incentive = aif(met, exceptional, book.miss_factor);
+    level(pyf, sum, incentive, pppi)
 }
 
 // The cap and floor levels of a year, with the target tested on the running log.
@@ -110,8 +107,8 @@ pub fn levels_of(book: Book, y: Year, log: Log) -> Levels
     if let Answer::Refused(why) = answer {
         return Levels::Refused(why);
     }
-    let cap = cap_of(book, y);
-    let floor = floor_of(book, y, is_met(target));
+    let cap = cap_of(book, y.pyc, y.aic, y.pppi);
+    let floor = floor_of(book, y.pyf, y.pppi, y.exceptional, is_met(target));
     if !within(cap, Levels::MOST) {
         return Levels::Refused(Refusal::TooLarge);
     }

@@ -30,7 +30,7 @@ fn fill(out: &mut [u8])
 {
     let mut i: usize = 0;
     while i < out.len() {
-        out[i] = (i % 251) as u8;
+        out[i] = (255 - i % 251) as u8;
         i += 1;
     }
 }

@@ -2,7 +2,7 @@
 use mathlib.Core.Path.{_≡_, refl, sym, ap, _∙_}
 use mathlib.Core.Bool.{Bool, true, false, cond, _&&_, _||_}
 use mathlib.Core.List.{List, [], _∷_, _++_}
-use Prim.Native.Nat.{ℕ, _+_, _≤_, _<_}
+use Prim.Native.Nat.{ℕ, _+_, _*_, _≤_, _<_}
 use native.Mathlib.Omega.{arith}
 use native.Mathlib.Numerals.{add-one}
 use lib.Dec.{leb}
@@ -14,10 +14,12 @@ use borrow.Author.Tests.{leb-true, lt-ltb, le-ltb, eq-eqb, ne-eqb}
 use Rattle.lists.specs.Lists.{all}
 use Rattle.lists.proofs.Tests.{and-left, and-right}
 use Rattle.lists.proofs.Lists.{all-at, all-as}
+use Rattle.money.specs.Pounds.{heldZ}
+use Rattle.money.proofs.Pounds.{abs-add, held-small}
 use Rattle.year.specs.declared.Line.{Line}
 use Rattle.year.specs.Year.{goodAmount, goodLine, goodLines, goodRate, eitherSign, isZeroLine, lineSlots, zeroLine}
-use Rattle.revenue.specs.Revenue.{poundsOf, atLeastZero, countedOf, summedOf}
-use Rattle.revenue.proofs.Terms.{known}
+use Rattle.revenue.specs.Revenue.{poundsOf, atLeastZero, countedAs, countedOf, summedOf, NAR}
+use Rattle.revenue.proofs.Terms.{known, total-is}
 
 -- ---- good lines
 pub rate-small : (rate : ℕ) → goodRate rate ≡ true → rate ≤ 200000
@@ -54,30 +56,30 @@ module _ (lines : List Line) (count : ℕ) (good : goodLines lines count ≡ tru
       good-amount (getD lines k zeroLine) (rw (getD-take count lines k zeroLine h) at g)
 
 -- ---- what a line counts, by its kind
-module _ (cmr : Bool) (rate : ℕ) (l : Line) where
-  pub capacity-in : l .kind ≡ 2 → cmr ≡ true → poundsOf rate l ≡ countedOf cmr rate l
-  unfolding countedOf
-  capacity-in k t = rw (eq-eqb (l .kind) 2 k, t)
+module _ (cmr : Bool) (kind : ℕ) (amount : ℤ) where
+  pub capacity-in : kind ≡ 2 → cmr ≡ true → amount ≡ countedAs cmr kind amount
+  unfolding countedAs
+  capacity-in k t = rw (eq-eqb kind 2 k, t)
 
-  pub capacity-out : l .kind ≡ 2 → cmr ≡ false → pos 0 ≡ countedOf cmr rate l
-  unfolding countedOf
-  capacity-out k t = rw (eq-eqb (l .kind) 2 k, t)
+  pub capacity-out : kind ≡ 2 → cmr ≡ false → pos 0 ≡ countedAs cmr kind amount
+  unfolding countedAs
+  capacity-out k t = rw (eq-eqb kind 2 k, t)
 
-  pub other-out : (l .kind ≡ 2 → ⊥) → cmr ≡ true → pos 0 ≡ countedOf cmr rate l
-  unfolding countedOf
-  other-out k t = rw (ne-eqb (l .kind) 2 k, t)
+  pub other-out : (kind ≡ 2 → ⊥) → cmr ≡ true → pos 0 ≡ countedAs cmr kind amount
+  unfolding countedAs
+  other-out k t = rw (ne-eqb kind 2 k, t)
 
-  pub revenue-in : (l .kind ≡ 2 → ⊥) → cmr ≡ false → l .kind < 7 → poundsOf rate l ≡ countedOf cmr rate l
-  unfolding countedOf
-  revenue-in k t h = rw (ne-eqb (l .kind) 2 k, t, lt-ltb (l .kind) 7 h)
+  pub revenue-in : (kind ≡ 2 → ⊥) → cmr ≡ false → kind < 7 → amount ≡ countedAs cmr kind amount
+  unfolding countedAs
+  revenue-in k t h = rw (ne-eqb kind 2 k, t, lt-ltb kind 7 h)
 
-  pub additional-in : (l .kind ≡ 2 → ⊥) → cmr ≡ false → 7 ≤ l .kind → l .kind ≡ 10 → poundsOf rate l ≡ countedOf cmr rate l
-  unfolding countedOf
-  additional-in k t h e = rw (ne-eqb (l .kind) 2 k, t, le-ltb (l .kind) 7 h, eq-eqb (l .kind) 10 e)
+  pub additional-in : (kind ≡ 2 → ⊥) → cmr ≡ false → 7 ≤ kind → kind ≡ 10 → amount ≡ countedAs cmr kind amount
+  unfolding countedAs
+  additional-in k t h e = rw (ne-eqb kind 2 k, t, le-ltb kind 7 h, eq-eqb kind 10 e)
 
-  pub cost-in : (l .kind ≡ 2 → ⊥) → cmr ≡ false → 7 ≤ l .kind → (l .kind ≡ 10 → ⊥) → negℤ (poundsOf rate l) ≡ countedOf cmr rate l
-  unfolding countedOf
-  cost-in k t h e = rw (ne-eqb (l .kind) 2 k, t, le-ltb (l .kind) 7 h, ne-eqb (l .kind) 10 e)
+  pub cost-in : (kind ≡ 2 → ⊥) → cmr ≡ false → 7 ≤ kind → (kind ≡ 10 → ⊥) → negℤ amount ≡ countedAs cmr kind amount
+  unfolding countedAs
+  cost-in k t h e = rw (ne-eqb kind 2 k, t, le-ltb kind 7 h, ne-eqb kind 10 e)
 
 -- ---- sums
 module _ (cmr : Bool) (rate : ℕ) where
@@ -87,16 +89,32 @@ module _ (cmr : Bool) (rate : ℕ) where
   snoc (x ∷ xs) l =
       ap (λ (z : ℤ). countedOf cmr rate x +ℤ z) (snoc xs l) ∙ sym (+ℤ-assoc (countedOf cmr rate x) (summedOf cmr rate xs) (countedOf cmr rate l))
 
-  pub summed-none : (lines : List Line) → summedOf cmr rate (take 0 lines) ≡ pos 0
-  unfolding summedOf
-  summed-none lines = refl
-
   -- one line on
-  pub summed-next : (lines : List Line) (k : ℕ) → k < length lines → summedOf cmr rate (take (k + 1) lines) ≡ summedOf cmr rate (take k lines) +ℤ countedOf cmr rate (getD lines k zeroLine)
+  summed-next : (lines : List Line) (k : ℕ) → k < length lines → summedOf cmr rate (take (k + 1) lines) ≡ summedOf cmr rate (take k lines) +ℤ countedOf cmr rate (getD lines k zeroLine)
   summed-next lines k h =
       ap (λ (n : ℕ). summedOf cmr rate (take n lines)) (add-one k)
       ∙ ap (summedOf cmr rate) (take-suc lines k zeroLine h)
       ∙ snoc (take k lines) (getD lines k zeroLine)
+
+  -- a line's pounds count what the line counts
+  pub counts-line : {a z : ℤ} (l : Line) → a ≡ poundsOf rate l → z ≡ countedAs cmr (l .kind) a → z ≡ countedOf cmr rate l
+  unfolding countedOf
+  counts-line l e f = f ∙ ap (countedAs cmr (l .kind)) e
+
+-- the first k lines are added up, each at most 2,000,000,000
+pub record Added (cmr : Bool) (rate : ℕ) (lines : List Line) (k : ℕ) (sum : ℤ) : Type 0 where
+  pub is : sum ≡ summedOf cmr rate (take k lines)
+  pub small : natAbs sum ≤ k * 2000000000
+
+pub added-none : (cmr : Bool) (rate : ℕ) (lines : List Line) → Added cmr rate lines 0 (pos 0)
+unfolding summedOf
+added-none cmr rate lines = record { is = refl; small = omega arith }
+
+pub added-next : {cmr : Bool} {rate : ℕ} {lines : List Line} {k : ℕ} {sum x r : ℤ} → k < length lines → k < 64 → Added cmr rate lines k sum → x ≡ countedOf cmr rate (getD lines k zeroLine) → natAbs x ≤ 2000000000 → r ≡ heldZ (sum +ℤ x) → Added cmr rate lines (k + 1) r
+added-next {cmr} {rate} {lines} {k} {sum} {x} {r} h few a e l w =
+    let more : natAbs (sum +ℤ x) ≤ k * 2000000000 + 2000000000 = omega (arith, a .small, abs-add sum x) in
+    let is : r ≡ sum +ℤ x = w ∙ held-small (sum +ℤ x) (omega arith) in
+    record { is = is ∙ rw (a .is, e, summed-next cmr rate lines k h); small = rw is (omega arith) }
 
 lifted : (t : Bool) (z : ℤ) → natAbs (cond t (pos 0) z) ≤ natAbs z
 lifted true z = omega arith
@@ -106,3 +124,9 @@ lifted false z = omega arith
 pub lifted-small : (z : ℤ) → natAbs (atLeastZero z) ≤ natAbs z
 unfolding atLeastZero
 lifted-small z = lifted (ltZ z (pos 0)) z
+
+-- both sums, of all good lines, are the total
+pub added-total : {rate : ℕ} {a b : ℤ} (lines : List Line) (count : ℕ) → goodLines lines count ≡ true → Added false rate lines count a → Added true rate lines count b → heldZ (a +ℤ atLeastZero b) ≡ NAR rate (take count lines)
+added-total {rate} {a} {b} lines count good others cmr =
+    held-small (a +ℤ atLeastZero b) (omega (arith, others .small, cmr .small, count-small lines count good, abs-add a (atLeastZero b), lifted-small b))
+    ∙ rw (others .is, cmr .is) (total-is rate (take count lines) (all-known lines count good))

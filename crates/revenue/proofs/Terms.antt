@@ -10,7 +10,7 @@ use borrow.Author.Tests.{leb-true}
 use Rattle.lists.specs.Lists.{all}
 use Rattle.lists.proofs.Tests.{and-left, and-right}
 use Rattle.year.specs.declared.Line.{Line}
-use Rattle.revenue.specs.Revenue.{poundsOf, sumOfKind, atLeastZero, countedOf, summedOf, NAR}
+use Rattle.revenue.specs.Revenue.{poundsOf, sumOfKind, atLeastZero, countedAs, countedOf, summedOf, NAR}
 
 -- ---- sums
 -- two summands change places
@@ -114,12 +114,12 @@ known l = leb 1 (l .kind) && leb (l .kind) 11
 
 module _ (rate : ℕ) where
   pub cmr-is : (ls : List Line) → summedOf true rate ls ≡ sumOfKind 2 rate ls
-  unfolding summedOf sumOfKind countedOf
+  unfolding summedOf sumOfKind countedOf countedAs
   cmr-is [] = refl
   cmr-is (l ∷ ls) = ap (λ (z : ℤ). cond (eqb (l .kind) 2) (poundsOf rate l) (pos 0) +ℤ z) (cmr-is ls)
 
   pub others-is : (ls : List Line) → all known ls ≡ true → summedOf false rate ls ≡ others (λ k. sumOfKind k rate ls)
-  unfolding summedOf sumOfKind countedOf
+  unfolding summedOf sumOfKind countedOf countedAs
   others-is [] e = refl
   others-is (l ∷ ls) e =
       let g = and-left (known l) (all known ls) e in

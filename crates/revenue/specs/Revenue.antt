@@ -102,11 +102,15 @@ abbrev pub revenueFigure : Revenue → ℤ
 revenueFigure (Pounds z) = z
 revenueFigure (Refused why) = pos 0
 
--- ---- the same line by line: what a line counts, in the sum of kind 2 where `cmr` holds, among the others where it does not
+-- ---- the same line by line
+-- what a line's pounds count by its kind, in the sum of kind 2 where `cmr` holds, among the others where it does not
+unfoldable pub countedAs : Bool → ℕ → ℤ → ℤ
+countedAs cmr kind amount =
+    cond (eqb kind 2) (cond cmr amount (pos 0)) (cond cmr (pos 0) (cond (ltb kind 7 || eqb kind 10) amount (negℤ amount)))
+
+-- what a line counts
 unfoldable pub countedOf : Bool → ℕ → Line → ℤ
-countedOf cmr rate l =
-    cond (eqb (l .kind) 2) (cond cmr (poundsOf rate l) (pos 0))
-    (cond cmr (pos 0) (cond (ltb (l .kind) 7 || eqb (l .kind) 10) (poundsOf rate l) (negℤ (poundsOf rate l))))
+countedOf cmr rate l = countedAs cmr (l .kind) (poundsOf rate l)
 
 unfoldable pub summedOf : Bool → ℕ → List Line → ℤ
 summedOf cmr rate [] = pos 0

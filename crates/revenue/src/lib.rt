@@ -16,7 +16,7 @@ ghost use lib.IntN.{natAbs};
 ghost use lib.ListN.{take};
 ghost use Rattle.refusals.specs.Refusals.{lowest};
 ghost use Rattle.year.specs.Year.{goodLines, goodRate};
-ghost use Rattle.revenue.specs.Revenue.{NAR, atLeastZero, countedOf, poundsOf, revenueFigure, revenueGiven, revenueNumber, revenueRows, summedOf};
+ghost use Rattle.revenue.specs.Revenue.{NAR, atLeastZero, countedAs, poundsOf, revenueFigure, revenueGiven, revenueNumber, revenueRows};
 
 // Assessed revenue in whole pounds, or why there is none.
 pub enum Revenue {
@@ -41,14 +41,12 @@ fn pounds(l: Line, rate: u32) -> i64
     scaled(amount, rate, 100_000)
 }
 
-// What a line counts: in the sum of kind 2 where `cmr` holds, among the others where it does not. Kinds 7, 8, 9 and 11
-// are subtracted.
-fn counted(cmr: bool, l: Line, rate: u32) -> i64
-    requires { ⌜ (natAbs (l .amount) ≤ 1000000000) × (rate ≤ 200000) ⌝ }
-    ensures { λ r. ⌜ (r ≡ countedOf cmr rate l) × (natAbs r ≤ 2000000000) ⌝ }
+// What the pounds of a line count: in the sum of kind 2 where `cmr` holds, among the others where it does not. Kinds 7, 8,
+// 9 and 11 are subtracted.
+fn counted(cmr: bool, kind: u8, amount: i64) -> i64
+    requires { ⌜ natAbs amount ≤ 2000000000 ⌝ }
+    ensures { λ r. ⌜ (r ≡ countedAs cmr kind amount) × (natAbs r ≤ 2000000000) ⌝ }
 {
-    let kind = l.kind;
-    let amount = pounds(l, rate);
     if kind == Line::CMR {
         if cmr {
             return amount;
@@ -67,34 +65,27 @@ fn counted(cmr: bool, l: Line, rate: u32) -> i64
     minus(0, amount)
 }
 
-// What the first lines count, added up.
-fn summed(cmr: bool, lines: [Line; Year::LINES], count: usize, rate: u32) -> i64
-    requires { ⌜ (goodLines lines count ≡ true) × (goodRate rate ≡ true) ⌝ }
-    ensures { λ r. ⌜ (r ≡ summedOf cmr rate (take count lines)) × (natAbs r ≤ 128000000000) ⌝ }
-{
-    let mut sum: i64 = 0;
-    let mut k: usize = 0;
-    while k < count {
-        let l = lines[k];
-        sum = plus(sum, counted(cmr, l, rate));
-        k += 1;
-    }
-    sum
-}
-
 fn at_least_zero(z: i64) -> i64
     ensures { λ r. ⌜ r ≡ atLeastZero z ⌝ }
 {
     if is_negative(z) { 0 } else { z }
 }
 
-// The total of the lines.
+// The total of the lines, in one pass.
 fn total(lines: [Line; Year::LINES], count: usize, rate: u32) -> i64
     requires { ⌜ (goodLines lines count ≡ true) × (goodRate rate ≡ true) ⌝ }
     ensures { λ r. ⌜ r ≡ NAR rate (take count lines) ⌝ }
 {
-    let others = summed(false, lines, count, rate);
-    let cmr = summed(true, lines, count, rate);
+    let mut others: i64 = 0;
+    let mut cmr: i64 = 0;
+    let mut k: usize = 0;
+    while k < count {
+        let l = lines[k];
+        let amount = pounds(l, rate);
+        others = plus(others, counted(false, l.kind, amount));
+        cmr = plus(cmr, counted(true, l.kind, amount));
+        k += 1;
+    }
     plus(others, at_least_zero(cmr))
 }
 

@@ -75,14 +75,14 @@ module _ (y : Year) where
     pub out-of-range : (a : Answer) (why : Refusal) → answerNumber a ≡ lowest (yearRows y) → a ≡ Refused why → answerNumber a ≡ lowest (filingRows y)
     out-of-range a why n e = rw v (by (goodYearRecord y) (ap answerNumber e) n)
       where
-        by : (t : Bool) {k : ℕ} → k ≡ numberOf why → k ≡ cond (not t) 9 0 → k ≡ cond (not (t && logFits y)) 9 0
+        by : (t : Bool) {k : ℕ} → k ≡ numberOf why → k ≡ cond (not t) 9 0 → k ≡ cond (not (t && logFits (y .log) (y .number))) 9 0
         by true f g = absurd (not-suc-le-zero {n = 0} (omega (arith, never-zero why)))
         by false f g = g
 
-    pub unfit : goodYearRecord y ≡ true → logFits y ≡ false → 9 ≡ lowest (filingRows y)
+    pub unfit : goodYearRecord y ≡ true → logFits (y .log) (y .number) ≡ false → 9 ≡ lowest (filingRows y)
     unfit g f = simp (v, g, f)
 
-    pub fit : goodYearRecord y ≡ true → logFits y ≡ true → 0 ≡ lowest (filingRows y)
+    pub fit : goodYearRecord y ≡ true → logFits (y .log) (y .number) ≡ true → 0 ≡ lowest (filingRows y)
     fit g f = simp (v, g, f)
 
   pub filing-valid : (a : Answer) → answerNumber a ≡ lowest (filingRows y) → a ≡ Done → validYear y ≡ true

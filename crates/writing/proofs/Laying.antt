@@ -24,7 +24,7 @@ use Rattle.codec.proofs.Leaves.{bytes-there}
 use Rattle.filing.specs.Form.{factorsValue, withinValue, lineValue, entryLayout, mark}
 use Rattle.filing.specs.Return.{returnOf}
 use Rattle.writing.specs.Written.{requiredOf}
-use Rattle.writing.proofs.Sizes.{parts-of, factored, lined, logged, marked, paid}
+use Rattle.writing.proofs.Sizes.{parts-of, required, factored, lined, logged, marked, paid}
 
 -- a number's bytes, where there is room for them
 pub number-laid : {o : List ℕ} {at : ℕ} {o' : List ℕ} {next : ℕ} (n v : ℕ) → at + n ≤ length o → n ≤ 8 → (o' ≡ laid o at (numberBytes n v)) × (next ≡ after o at (numberBytes n v)) → Wrote o at (bytesOf n v) o' next
@@ -69,11 +69,11 @@ module _ {o : List ℕ} {at : ℕ} {o1 : List ℕ} {n1 : ℕ} {o2 : List ℕ} {n
     unfolding fieldOf
     entry-laid e a b c d = then a (then b (then c d))
 
-    pub required-laid : (y : Year) → Wrote o at (head 1 1 ++ bytesOf 1 (y .number)) o1 n1 → Wrote o1 n1 (head 2 4 ++ bytesOf 4 (y .pppi)) o2 n2 → Wrote o2 n2 (head 3 4 ++ bytesOf 4 (y .rate)) o3 n3 → Wrote o3 n3 (head 4 2 ++ bytesOf 2 (y .aic)) o4 n4 → Wrote o at (requiredOf y) o4 n4
+    pub required-laid : (number pppi rate aic : ℕ) → Wrote o at (head 1 1 ++ bytesOf 1 number) o1 n1 → Wrote o1 n1 (head 2 4 ++ bytesOf 4 pppi) o2 n2 → Wrote o2 n2 (head 3 4 ++ bytesOf 4 rate) o3 n3 → Wrote o3 n3 (head 4 2 ++ bytesOf 2 aic) o4 n4 → Wrote o at (requiredOf number pppi rate aic) o4 n4
     unfolding fieldOf
-    required-laid y a b c d = then a (then b (then c d))
+    required-laid number pppi rate aic a b c d = then a (then b (then c d))
 
-    pub year-laid : {o5 : List ℕ} {n5 : ℕ} {o6 : List ℕ} {n6 : ℕ} (y : Year) → Wrote o at (requiredOf y) o1 n1 → Wrote o1 n1 (factored y) o2 n2 → Wrote o2 n2 (lined y) o3 n3 → Wrote o3 n3 (logged y) o4 n4 → Wrote o4 n4 (marked y) o5 n5 → Wrote o5 n5 (paid y) o6 n6 → Wrote o at (returnOf y) o6 n6
+    pub year-laid : {o5 : List ℕ} {n5 : ℕ} {o6 : List ℕ} {n6 : ℕ} (y : Year) → Wrote o at (required y) o1 n1 → Wrote o1 n1 (factored y) o2 n2 → Wrote o2 n2 (lined y) o3 n3 → Wrote o3 n3 (logged y) o4 n4 → Wrote o4 n4 (marked y) o5 n5 → Wrote o5 n5 (paid y) o6 n6 → Wrote o at (returnOf y) o6 n6
     year-laid y a b c d e f = rw (parts-of y) (then a (then b (then c (then d (then e f)))))
 
 -- ---- a field that repeats: the first i of a list are written

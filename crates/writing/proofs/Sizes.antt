@@ -52,10 +52,6 @@ pub within-size : (z : ℤ) → length (fieldOf 9 withinValue z) ≡ 11
 unfolding fieldOf
 within-size z = simp (length-append, length-head, bytes-length)
 
-pub required-size : (y : Year) → length (requiredOf y) ≡ 23
-unfolding fieldOf
-required-size y = simp (length-append, length-head, bytes-length)
-
 -- ---- a field that may be left out
 pub none-size : {t : Bool} (bs : List ℕ) → t ≡ true → length (unless t bs) ≡ 0
 none-size bs e = rw e
@@ -75,8 +71,15 @@ unfolding texts fieldOf
 entries-same number before [] = refl
 entries-same number before (e ∷ es) = ap (λ (bs : List ℕ). fieldOf 7 entryLayout e ++ bs) (entries-same number (before ++ (e ∷ [])) es)
 
--- the bytes of each of the others
+-- the bytes of each
 module _ (y : Year) where
+  abbrev pub required : List ℕ
+  required = requiredOf (y .number) (y .pppi) (y .rate) (y .aic)
+
+  pub required-size : length required ≡ 23
+  unfolding fieldOf
+  required-size = simp (length-append, length-head, bytes-length)
+
   abbrev pub factored : List ℕ
   factored = factors (y .number) .write (y .pyc, y .pyf)
 
@@ -92,14 +95,9 @@ module _ (y : Year) where
   abbrev pub paid : List ℕ
   paid = within .write (y .within)
 
-  pub parts-of : returnOf y ≡ requiredOf y ++ (factored ++ (lined ++ (logged ++ (marked ++ paid))))
+  pub parts-of : returnOf y ≡ required ++ (factored ++ (lined ++ (logged ++ (marked ++ paid))))
   unfolding returnOf form
   parts-of = rw (entries-same (y .number) [] (live (y .log))) (simp append-assoc)
-
-  -- the required fields fit where the return fits
-  pub required-fits : 23 ≤ length (returnOf y)
-  required-fits =
-      omega (arith, ap length parts-of ∙ length-append (requiredOf y) (factored ++ (lined ++ (logged ++ (marked ++ paid)))), required-size y)
 
 -- ---- a valid year has no more lines and outages than slots
 pub log-small : (y : Year) → validLog (y .log) ≡ true → y .log .count ≤ slots
@@ -119,7 +117,7 @@ module _ (y : Year) (valid : validYear y ≡ true) where
       (and-left (leb (y .«line_count») lineSlots) slotted
       (and-right paid lines
       (and-right ranged (paid && lines)
-      (and-left (goodYearRecord y) (logFits y)
+      (and-left (goodYearRecord y) (logFits (y .log) (y .number))
       (and-right (validLog (y .log)) (fileable y) valid)))))
 
   module _ (l : length (y .lines) ≡ lineSlots) where
@@ -139,7 +137,7 @@ module _ (y : Year) (valid : validYear y ≡ true) where
       → length (returnOf y) ≡ 23 + (length (factored y) + (13 * y .«line_count» + (13 * y .log .count + (length (marked y) + length (paid y)))))
   year-size l e =
       ap length (parts-of y)
-      ∙ length-append (requiredOf y) (factored y ++ (lined y ++ (logged y ++ (marked y ++ paid y))))
+      ∙ length-append (required y) (factored y ++ (lined y ++ (logged y ++ (marked y ++ paid y))))
       ∙ ap₂ (λ (m n : ℕ). m + n) (required-size y)
       (length-append (factored y) (lined y ++ (logged y ++ (marked y ++ paid y)))
       ∙ ap (λ (n : ℕ). length (factored y) + n)

@@ -1,17 +1,20 @@
 -- The number and the length of each case of the answer: document 01, "Numbers a call can give instead".
-use mathlib.Core.Bool.{Bool, not, _&&_}
+use mathlib.Core.Bool.{Bool, cond, not, _&&_}
 use mathlib.Core.List.{List, [], _∷_, _++_}
-use Prim.Native.Nat.{ℕ}
+use Prim.Native.Nat.{ℕ, _+_}
 use lib.Dec.{leb, ltb, eqb}
+use lib.IntN.{ℤ}
+use lib.ListN.{length}
 use Rattle.lists.specs.Lists.{all}
 use Rattle.refusals.specs.Refusals.{Rows, numberOf}
 use Rattle.refusals.specs.declared.Refusal.the-variants.{BrokenLog, BadYear}
 use Rattle.outage.specs.declared.Entry.{Entry}
+use Rattle.outage.specs.declared.Log.{Log}
 use Rattle.outage.specs.Log.{lastRegimeEnd, live, validLog}
 use Rattle.year.specs.declared.Line.{Line}
 use Rattle.year.specs.declared.Year.{Year}
 use Rattle.codec.specs.Format.{Item, fieldOf, tagged}
-use Rattle.filing.specs.Form.{yearValue, pppiValue, rateValue, aicValue, entryLayout, startsIn}
+use Rattle.filing.specs.Form.{yearValue, pppiValue, rateValue, aicValue, entryLayout, factors, mark, within, startsIn}
 use Rattle.filing.specs.Return.{fileable}
 use Rattle.writing.specs.declared.Written.{Written}
 use Rattle.writing.specs.declared.Written.the-variants.{Length, Refused}
@@ -33,13 +36,18 @@ abbrev pub startsBetween : ℕ → ℕ → Entry → Bool
 startsBetween first end e = leb first (e .start) && ltb (e .start) end
 
 -- "a start outside it or a regime end other than 13,632,480": neither
-abbrev pub logFits : Year → Bool
-logFits y = eqb (y .log .«regime_end») lastRegimeEnd && all (startsIn (y .number)) (live (y .log))
+abbrev pub logFits : Log → ℕ → Bool
+logFits log number = eqb (log .«regime_end») lastRegimeEnd && all (startsIn number) (live log)
 
 -- the four required fields
-abbrev pub requiredOf : Year → List ℕ
-requiredOf y =
-    fieldOf 1 yearValue (y .number) ++ (fieldOf 2 pppiValue (y .pppi) ++ (fieldOf 3 rateValue (y .rate) ++ fieldOf 4 aicValue (y .aic)))
+abbrev pub requiredOf : ℕ → ℕ → ℕ → ℕ → List ℕ
+requiredOf number pppi rate aic =
+    fieldOf 1 yearValue number ++ (fieldOf 2 pppiValue pppi ++ (fieldOf 3 rateValue rate ++ fieldOf 4 aicValue aic))
+
+-- how many bytes the factors, the mark and the adjustment take
+abbrev pub restSize : ℕ → ℕ → ℕ → Bool → ℤ → ℕ
+restSize number pyc pyf exceptional paid =
+    length (factors number .write (pyc, pyf)) + (length (mark .write (cond exceptional 1 0)) + length (within .write paid))
 
 -- an outage's field, in whatever year and after whatever others
 abbrev pub anyEntry : List Entry → Item Entry

@@ -5,17 +5,18 @@ use codec::unsigned;
 use filing::Factors;
 use filing::Return;
 use money::magnitude;
-use year::Year;
 ghost use mathlib.Core.Path.{_≡_};
-ghost use mathlib.Core.Bool.{cond, true};
+ghost use mathlib.Core.Bool.{cond};
 ghost use mathlib.Core.List.{_++_};
-ghost use Prim.Native.Nat.{_+_, _≤_};
+ghost use Prim.Native.Nat.{_+_, _*_, _≤_};
 ghost use lib.ListN.{length};
+ghost use Rattle.outage.specs.Log.{slots};
+ghost use Rattle.year.specs.Year.{lineSlots};
 ghost use Rattle.codec.specs.Numbers.{bytesOf};
 ghost use Rattle.codec.specs.Fields.{head};
 ghost use Rattle.codec.specs.Buffers.{Wrote};
 ghost use Rattle.filing.specs.Form.{factors, mark, within};
-ghost use Rattle.filing.specs.Return.{returnOf, validYear};
+ghost use Rattle.writing.specs.Written.{restSize};
 
 // A number of n bytes.
 pub(crate) fn lay(out: &mut [u8], at: usize, n: usize, v: u64) -> usize
@@ -79,34 +80,35 @@ pub(crate) fn put_within(out: &mut [u8], at: usize, paid: i64) -> usize
 }
 
 // What the factors, the mark and the adjustment take.
-fn size_of_rest(y: Year) -> usize
-    ensures { λ r. ⌜
-        (r ≡ length (factors (y .number) .write (y .pyc, y .pyf)) + (length (mark .write (cond (y .exceptional) 1 0)) + length (within .write (y .within))))
-        × (r ≤ 22)
-        ⌝ }
+fn size_of_rest(year: u8, pyc: u16, pyf: u16, exceptional: bool, paid: i64) -> usize
+    ensures { λ r. ⌜ (r ≡ restSize year pyc pyf exceptional paid) × (r ≤ 22) ⌝ }
 {
-    let f = Factors {
-        pyc: y.pyc,
-        pyf: y.pyf,
-    };
+    let f = Factors { pyc, pyf };
     let mut n: usize = 0;
-    if !f.are_left_out(y.number) {
+    if !f.are_left_out(year) {
         n += 7;
     }
-    if y.exceptional {
+    if exceptional {
         n += 4;
     }
-    let paid = y.within;
     if magnitude(paid) != 0 {
         n += 11;
     }
     n
 }
 
-// How many bytes the return of a valid year has.
-pub(crate) fn size_of(y: Year) -> usize
-    requires { ⌜ validYear y ≡ true ⌝ }
-    ensures { λ r. ⌜ r ≡ length (returnOf y) ⌝ }
+// How many bytes a return has with so many lines and outages.
+pub(crate) fn size_of(
+    year: u8,
+    pyc: u16,
+    pyf: u16,
+    exceptional: bool,
+    paid: i64,
+    lines: usize,
+    outages: usize,
+) -> usize
+    requires { ⌜ (lines ≤ lineSlots) × (outages ≤ slots) ⌝ }
+    ensures { λ r. ⌜ r ≡ 23 + (13 * lines + (13 * outages + restSize year pyc pyf exceptional paid)) ⌝ }
 {
-    23 + (13 * y.line_count + (13 * y.log.count + size_of_rest(y)))
+    23 + (13 * lines + (13 * outages + size_of_rest(year, pyc, pyf, exceptional, paid)))
 }

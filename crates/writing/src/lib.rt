@@ -31,14 +31,14 @@ pub enum Written {
 }
 
 // The four required fields.
-fn put_required(y: Year, out: &mut [u8]) -> usize
-    requires { ⌜ (validYear y ≡ true) × (length (returnOf y) ≤ length (now out)) ⌝ }
-    ensures { λ r. ⌜ Wrote (now (out .entry)) 0 (requiredOf y) (now (out .exit)) r ⌝ }
+fn put_required(number: u8, pppi: u32, rate: u32, aic: u16, out: &mut [u8]) -> usize
+    requires { ⌜ 23 ≤ length (now out) ⌝ }
+    ensures { λ r. ⌜ Wrote (now (out .entry)) 0 (requiredOf number pppi rate aic) (now (out .exit)) r ⌝ }
 {
-    let a = put_number(out, 0, Return::YEAR, 1, y.number as u64);
-    let b = put_number(out, a, Return::PPPI, 4, y.pppi as u64);
-    let c = put_number(out, b, Return::RATE, 4, y.rate as u64);
-    put_number(out, c, Return::AIC, 2, y.aic as u64)
+    let a = put_number(out, 0, Return::YEAR, 1, number as u64);
+    let b = put_number(out, a, Return::PPPI, 4, pppi as u64);
+    let c = put_number(out, b, Return::RATE, 4, rate as u64);
+    put_number(out, c, Return::AIC, 2, aic as u64)
 }
 
 // The bytes of a valid year at the front of a buffer with room for them.
@@ -48,7 +48,7 @@ fn put_year(y: Year, out: &mut [u8]) -> usize
 {
     let lines = y.lines;
     let log = y.log;
-    let a = put_required(y, out);
+    let a = put_required(y.number, y.pppi, y.rate, y.aic, out);
     let b = put_factors(out, a, y.number, y.pyc, y.pyf);
     let c = put_lines(out, b, lines, y.line_count);
     let d = put_outages(out, c, log);
@@ -68,7 +68,16 @@ pub fn write_return(y: Year, out: &mut [u8]) -> Written
     if let Answer::Refused(why) = answer {
         return Written::Refused(why);
     }
-    if out.len() < size_of(y) {
+    let size = size_of(
+        y.number,
+        y.pyc,
+        y.pyf,
+        y.exceptional,
+        y.within,
+        y.line_count,
+        y.log.count,
+    );
+    if out.len() < size {
         return Written::Refused(Refusal::NoRoom);
     }
     Written::Length(put_year(y, out))

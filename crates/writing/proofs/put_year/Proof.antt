@@ -27,7 +27,7 @@ back : (c : tie.Start) → toZ w64 (ofZ w64 (c .args .y .within)) ≡ c .args .y
 back c = wire (c .args .y .within) (search needs)
 
 put-required-requires : tie.Need-put-required-requires
-put-required-requires c κs = search needs
+put-required-requires c κs = omega (arith, room (c .before .before .before .before))
 
 put-factors-requires : tie.Need-put-factors-requires
 put-factors-requires c κs =

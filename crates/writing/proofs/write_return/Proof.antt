@@ -2,12 +2,18 @@ use mathlib.Core.Path.{_≡_, sym, ap, _∙_}
 use mathlib.Core.Bool.{true}
 use native.Mathlib.Omega.{arith}
 use borrow.Author.Needs.{needs}
+use lib.ListN.{length}
+use mir.Syntax.{w64}
+use mir.Val.{toZ, ofZ}
+use Rattle.lists.proofs.Tests.{held}
+use Rattle.money.proofs.Pounds.{wire}
 use Rattle.refusals.specs.declared.Refusal.the-variants.{NoRoom}
 use Rattle.refusals.specs.Refusals.{answerNumber}
-use Rattle.filing.specs.Return.{validYear}
+use Rattle.filing.specs.Return.{returnOf, validYear}
 use Rattle.writing.specs.declared.Written.the-variants.{Refused}
 use Rattle.writing.proofs.Only.{WriteGives}
 use Rattle.writing.proofs.Filing.{filing-valid, gives-refused, gives-no-room, gives-length}
+use Rattle.writing.proofs.Sizes.{few-lines, few-outages, year-size}
 use Rattle.writing.proofs.write_return.Statement.{statement}
 use Rattle.writing.proofs.write_return.Tie as tie
 
@@ -17,12 +23,30 @@ valid c =
     let k = c .before .before in
     filing-valid (k .before .before .args .y) (k .check-filing .result) (k .check-filing .ensures) (c .enum-told .given .1)
 
--- where there is no room: 14, and the buffer as it was
-no-room : (c : tie.Then1) → (let a = c .before .before .before .before .before .before .args in WriteGives (a .y) (a .out .now) (Refused NoRoom) (a .out .now))
-no-room c =
+slots : (c : tie.Start) → length (c .args .y .lines) ≡ 64
+slots c = search (needs, held)
+
+entries : (c : tie.Start) → length (c .args .y .log .entries) ≡ 400
+entries c = search (needs, held)
+
+-- the adjustment, as it is read back
+back : (c : tie.Start) → toZ w64 (ofZ w64 (c .args .y .within)) ≡ c .args .y .within
+back c = wire (c .args .y .within) (search needs)
+
+-- its return has so many bytes
+sized : (c : tie.After-size-of) → c .size-of .result ≡ length (returnOf (c .before .before .before .before .before .before .args .y))
+sized c =
     let t = c .before .before in
+    let s = t .before .before .before .before in
+    let y = s .args .y in
+    omega (arith, rw (back s) at (c .size-of .ensures), year-size y (valid t) (slots s) (entries s))
+
+-- where there is no room: 14, and the buffer as it was
+no-room : (c : tie.Then1) → (let a = c .before .before .before .before .before .before .before .args in WriteGives (a .y) (a .out .now) (Refused NoRoom) (a .out .now))
+no-room c =
+    let t = c .before .before .before in
     let a = t .before .before .before .before .args in
-    gives-no-room (a .y) (a .out .now) (valid t) (omega (arith, c .before .size-of .ensures, c .if1 .taken))
+    gives-no-room (a .y) (a .out .now) (valid t) (omega (arith, sized (c .before), c .if1 .taken))
 
 check-filing-requires : tie.Need-check-filing-requires
 check-filing-requires c κs = search needs
@@ -40,13 +64,18 @@ enum-told : tie.Need-enum-told
 enum-told c = search needs
 
 size-of-requires : tie.Need-size-of-requires
-size-of-requires c κs = search (needs, valid)
+size-of-requires c κs =
+    let t = c .before in
+    let y = t .before .before .before .before .args .y in
+    (few-lines y (valid t), few-outages y (valid t))
 
 returns-2 : tie.Need-returns-2
 returns-2 c = search no-room
 
 put-year-requires : tie.Need-put-year-requires
-put-year-requires c κs = search (needs, valid)
+put-year-requires c κs =
+    let e = c .before in
+    (valid (e .before .before .before), omega (arith, sized (e .before), e .if1 .left))
 
 same-length : tie.Need-same-length
 same-length c = search needs
@@ -55,9 +84,9 @@ returns-3 : tie.Need-returns-3
 returns-3 c =
     let p = c .before .before in
     let e = p .before .before in
-    let t = e .before .before in
+    let t = e .before .before .before in
     let a = t .before .before .before .before .args in
-    gives-length (a .y) (a .out .now) (valid t) (omega (arith, e .before .size-of .ensures, e .if1 .left)) (p .put-year .ensures)
+    gives-length (a .y) (a .out .now) (valid t) (omega (arith, sized (e .before), e .if1 .left)) (p .put-year .ensures)
 
 pub write-return-spec : {M : Type 1} → statement M
 write-return-spec =

@@ -1,10 +1,9 @@
 use mathlib.Core.Path.{_≡_, ap, _∙_}
-use native.Mathlib.Omega.{arith}
 use lib.IntN.{ℤ}
 use Rattle.money.proofs.Pounds.{wire}
 use Rattle.levels.specs.Book.{capSum}
 use Rattle.levels.specs.Levels.{levelOf}
-use Rattle.levels.proofs.Ranges.{wire-small, book-says, year-says}
+use Rattle.levels.proofs.Ranges.{wire-small, book-says}
 use Rattle.levels.proofs.levelling.cap_of.Statement.{statement}
 use Rattle.levels.proofs.levelling.cap_of.Tie as tie
 
@@ -25,15 +24,14 @@ sum-of-requires c κs =
 level-requires : tie.Need-level-requires
 level-requires c κs =
     let s = c .before .before .before .before in
-    let y = year-says (s .args .y) (s .pre .1) in
-    rw (wire (c .sum-of .result) (c .sum-of .ok), sum c) (omega arith, book-says (s .args .book) (s .pre .0) .cap .all, omega arith, omega arith)
+    rw (wire (c .sum-of .result) (c .sum-of .ok), sum c) (s .pre .1, book-says (s .args .book) (s .pre .0) .cap .all, s .pre .2, s .pre .3)
 
 returns : tie.Need-returns
 returns c =
-    let y = c .before .before .before .before .before .args .y in
+    let a = c .before .before .before .before .before .args in
     wire (c .level .result) (c .level .ok)
     ∙ rw (wire (c .before .sum-of .result) (c .before .sum-of .ok)) at (c .level .ensures)
-    ∙ ap (λ (z : ℤ). levelOf (y .pyc) z (y .aic) (y .pppi)) (sum (c .before))
+    ∙ ap (λ (z : ℤ). levelOf (a .pyc) z (a .aic) (a .pppi)) (sum (c .before))
 
 pub cap-of-spec : {M : Type 1} → statement M
 cap-of-spec = tie.close (tie.spec sum-of-requires level-requires returns)

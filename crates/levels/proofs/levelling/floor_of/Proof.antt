@@ -3,7 +3,7 @@ use native.Mathlib.Omega.{arith}
 use borrow.Author.Needs.{needs}
 use Rattle.money.proofs.Pounds.{wire}
 use Rattle.levels.specs.Book.{floorSum}
-use Rattle.levels.proofs.Ranges.{wire-small, book-says, year-says, aif-most}
+use Rattle.levels.proofs.Ranges.{wire-small, book-says, aif-most}
 use Rattle.levels.proofs.levelling.floor_of.Statement.{statement}
 use Rattle.levels.proofs.levelling.floor_of.Tie as tie
 
@@ -28,13 +28,11 @@ level-requires : tie.Need-level-requires
 level-requires c κs =
     let s = c .before .before .before .before .before in
     let b = book-says (s .args .book) (s .pre .0) in
-    let y = year-says (s .args .y) (s .pre .1) in
     rw (wire (c .before .sum-of .result) (c .before .sum-of .ok), sum (c .before))
-    (omega arith, b .floor .all, omega (arith, c .aif .ensures, aif-most (s .args .met) (s .args .y .exceptional) (s .args .book .«miss_factor») (b .factor)), omega arith)
+    (s .pre .1, b .floor .all, omega (arith, c .aif .ensures, aif-most (s .args .met) (s .args .exceptional) (s .args .book .«miss_factor») (b .factor)), s .pre .2)
 
 returns : tie.Need-returns
 returns c =
-    let y = c .before .before .before .before .before .before .args .y in
     wire (c .level .result) (c .level .ok)
     ∙ rw (wire (c .before .before .sum-of .result) (c .before .before .sum-of .ok), c .before .aif .ensures, sum (c .before .before)) at (c .level .ensures)
 

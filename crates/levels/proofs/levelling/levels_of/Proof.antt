@@ -12,6 +12,7 @@ use Rattle.levels.specs.declared.measuring.Target.the-variants.{Met, Mis
 use Rattle.levels.specs.Availability.{targetNumber, targetMet}
 use Rattle.levels.specs.Levels.{aifOf, capLevel, floorLevel, levelFits}
 use Rattle.levels.proofs.Only.{TargetGives}
+use Rattle.levels.proofs.Ranges.{year-says}
 use Rattle.levels.proofs.Levelled.{gives-no-target, gives-no-year, good, year-good, gives-large-cap, gives-large-floor, gives-levels}
 use Rattle.levels.proofs.measuring.Target.{the-type}
 use Rattle.levels.proofs.levelling.levels_of.Statement.{statement}
@@ -81,7 +82,8 @@ cap-of-requires : tie.Need-cap-of-requires
 cap-of-requires c κs =
     let k = c .before .before .before in
     let a = k .before .before .args in
-    (good (a .book) (a .y) (a .log) (k .before .check-target .result) (k .before .check-target .ensures) (clear k), in-range c)
+    let y = year-says (a .y) (in-range c) in
+    (good (a .book) (a .y) (a .log) (k .before .check-target .result) (k .before .check-target .ensures) (clear k), y .pyc, y .aic, y .pppi)
 
 is-met-requires : tie.Need-is-met-requires
 is-met-requires c κs = search needs
@@ -91,7 +93,8 @@ floor-of-requires c κs =
     let e = c .before .before in
     let k = e .before .before .before in
     let a = k .before .before .args in
-    (good (a .book) (a .y) (a .log) (k .before .check-target .result) (k .before .check-target .ensures) (clear k), in-range e)
+    let y = year-says (a .y) (in-range e) in
+    (good (a .book) (a .y) (a .log) (k .before .check-target .result) (k .before .check-target .ensures) (clear k), y .pyf, y .pppi)
 
 within-requires : tie.Need-within-requires
 within-requires c κs = search needs

@@ -15,6 +15,9 @@ abbrev μ-loop : tie.MeasureT-loop
 loop-holds : tie.Need-loop-holds Inv-loop μ-loop
 loop-holds c = (omega arith, refl)
 
+sub-out : tie.Need-sub-out Inv-loop μ-loop
+sub-out c = search needs
+
 cast-out : tie.Need-cast-out Inv-loop μ-loop
 cast-out c = search needs
 
@@ -43,6 +46,7 @@ fill-spec =
     Inv-loop
     μ-loop
     loop-holds
+    sub-out
     cast-out
     slice-write-out
     add-i

@@ -1,4 +1,5 @@
 use mathlib.Core.Path.{_≡_, sym, ap, _∙_}
+use mathlib.Core.Bool.{cond}
 use mathlib.Core.Logic.{⊎-elim}
 use Prim.Native.Nat.{ℕ, _+_, _≤_}
 use native.Mathlib.Omega.{arith}
@@ -6,26 +7,33 @@ use borrow.Author.Needs.{needs}
 use borrow.Author.Tests.{eq-eqb, ne-eqb, not-true, not-false}
 use lib.IntN.{natAbs}
 use lib.ListN.{length}
-use Rattle.money.proofs.Pounds.{wire}
+use mir.Syntax.{w64}
+use mir.ValLaws.{toZ-ofZ}
 use Rattle.codec.specs.Format.{fieldOf}
-use Rattle.filing.specs.Form.{factorsValue, withinValue}
-use Rattle.writing.proofs.Sizes.{factored, marked, none-size, some-size, factors-size, mark-in, mark-out, within-size}
+use Rattle.filing.specs.Form.{factors, factorsValue, mark, withinValue}
+use Rattle.writing.proofs.Sizes.{none-size, some-size, factors-size, mark-in, mark-out, within-size}
 use Rattle.writing.proofs.fields.size_of_rest.Statement.{statement}
 use Rattle.writing.proofs.fields.size_of_rest.Tie as tie
 
 -- ---- after each test, what is counted so far
-first : (c : tie.Joined1) → (c .if1 .n ≡ length (factored (c .before .before .args .y))) × (c .if1 .n ≤ 7)
+abbrev factored : tie.Start → ℕ
+factored c = let s = c .args in length (factors (s .year) .write (s .pyc, s .pyf))
+
+abbrev marked : tie.Start → ℕ
+marked c = length (mark .write (cond (c .args .exceptional) 1 0))
+
+first : (c : tie.Joined1) → (c .if1 .n ≡ factored (c .before .before)) × (c .if1 .n ≤ 7)
 first c =
     let a = c .before in
-    let y = a .before .args .y in
-    let f : ℕ × ℕ = (y .pyc, y .pyf) in
-    let bs = fieldOf 5 (factorsValue (y .number)) f in
+    let s = a .before .args in
+    let f : ℕ × ℕ = (s .pyc, s .pyf) in
+    let bs = fieldOf 5 (factorsValue (s .year)) f in
     ⊎-elim
-    (λ w. let e = some-size bs (sym (a .are-left-out .ensures) ∙ not-true _ (w .0 .taken)) ∙ factors-size (y .number) f in (omega (arith, w .1), omega (arith, w .1)))
+    (λ w. let e = some-size bs (sym (a .are-left-out .ensures) ∙ not-true _ (w .0 .taken)) ∙ factors-size (s .year) f in (omega (arith, w .1), omega (arith, w .1)))
     (λ w. let e = none-size bs (sym (a .are-left-out .ensures) ∙ not-false _ (w .0 .left)) in (omega (arith, w .1), omega (arith, w .1)))
     (c .if1 .came)
 
-second : (c : tie.Joined2) → (let y = c .before .before .before .args .y in (c .if2 .n ≡ length (factored y) + length (marked y)) × (c .if2 .n ≤ 11))
+second : (c : tie.Joined2) → (let s = c .before .before .before in (c .if2 .n ≡ factored s + marked s) × (c .if2 .n ≤ 11))
 second c =
     let p = first (c .before) in
     ⊎-elim
@@ -33,8 +41,8 @@ second c =
     (λ w. let e = mark-out (w .0 .left) in (omega (arith, w .1), omega (arith, w .1)))
     (c .if2 .came)
 
-magnitude : (c : tie.After-magnitude) → c .magnitude .result ≡ natAbs (c .before .before .before .before .before .args .y .within)
-magnitude c = c .magnitude .ensures ∙ ap natAbs (wire (c .before .before .before .before .before .args .y .within) (c .before .struct-told .given .1 .1 .1 .1 .1 .1 .1 .1 .1 .0 .1))
+magnitude : (c : tie.After-magnitude) → c .magnitude .result ≡ natAbs (c .before .before .before .before .args .paid)
+magnitude c = let s = c .before .before .before .before in c .magnitude .ensures ∙ ap natAbs (toZ-ofZ w64 (s .args .paid) (s .fits .paid))
 
 are-left-out-requires : tie.Need-are-left-out-requires
 are-left-out-requires c κs = search needs
@@ -49,21 +57,21 @@ magnitude-requires : tie.Need-magnitude-requires
 magnitude-requires c κs = search needs
 
 add-n-3 : tie.Need-add-n-3
-add-n-3 c = omega (arith, second (c .before .before .before .before) .1)
+add-n-3 c = omega (arith, second (c .before .before .before) .1)
 
 returns : tie.Need-returns
 returns c =
     let m = c .before .before in
-    let z = m .before .before .before .before .before .args .y .within in
-    let p = second (m .before .before) in
+    let z = m .before .before .before .before .args .paid in
+    let p = second (m .before) in
     let e = some-size (fieldOf 9 withinValue z) (ne-eqb _ _ (λ f. c .before .if3 .taken (magnitude m ∙ f))) ∙ within-size z in
     (omega arith, omega arith)
 
 returns-2 : tie.Need-returns-2
 returns-2 c =
     let m = c .before in
-    let z = m .before .before .before .before .before .args .y .within in
-    let p = second (m .before .before) in
+    let z = m .before .before .before .before .args .paid in
+    let p = second (m .before) in
     let e = none-size (fieldOf 9 withinValue z) (eq-eqb _ _ (sym (magnitude m) ∙ c .if3 .left)) in
     (omega arith, omega arith)
 

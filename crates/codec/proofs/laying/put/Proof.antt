@@ -4,8 +4,8 @@ use mathlib.Core.Path.{sym}
 use Rattle.codec.proofs.Numbers.{bytes-length}
 use Rattle.codec.proofs.Buffers.{laid-empty, written, unwritten}
 use Rattle.codec.proofs.Leaves.{bytes-there, bytes-wide}
-use Rattle.codec.proofs.writing.put.Statement.{statement}
-use Rattle.codec.proofs.writing.put.Tie as tie
+use Rattle.codec.proofs.laying.put.Statement.{statement}
+use Rattle.codec.proofs.laying.put.Tie as tie
 
 returns : tie.Need-returns
 returns c =

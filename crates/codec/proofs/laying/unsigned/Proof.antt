@@ -4,8 +4,8 @@ use mir.Syntax.{w64}
 use mir.Val.{toZ, ofZ}
 use mir.ValLaws.{toZ-ofZ}
 use Rattle.codec.proofs.Complement.{comp-fits, minus, plus, Minus, Plus}
-use Rattle.codec.proofs.writing.unsigned.Statement.{statement}
-use Rattle.codec.proofs.writing.unsigned.Tie as tie
+use Rattle.codec.proofs.laying.unsigned.Statement.{statement}
+use Rattle.codec.proofs.laying.unsigned.Tie as tie
 
 back : (c : tie.Start) → toZ w64 (ofZ w64 (c .args .z)) ≡ c .args .z
 back c = toZ-ofZ w64 (c .args .z) (c .fits .z)

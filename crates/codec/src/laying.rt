@@ -16,10 +16,12 @@ fn lay(out: &mut [u8], at: usize, n: usize, v: u64)
     requires { ⌜ at + n ≤ length (now out) ⌝ }
     ensures { λ _. ⌜ now (out .exit) ≡ sets (now (out .entry)) at (bytesOf n v) ⌝ }
 {
-    if 0 < n {
-        let k = n - 1;
-        lay(out, at, k, v / 256);
-        out[at + k] = (v % 256) as u8;
+    let mut k = n;
+    let mut rest = v;
+    while 0 < k {
+        k -= 1;
+        out[at + k] = (rest % 256) as u8;
+        rest = rest / 256;
     }
 }
 

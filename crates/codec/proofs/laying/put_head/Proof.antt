@@ -6,8 +6,8 @@ use lib.ListN.{length-set}
 use Rattle.codec.specs.Fields.{head}
 use Rattle.codec.proofs.Buffers.{written, unwritten}
 use Rattle.codec.proofs.Items.{length-head}
-use Rattle.codec.proofs.writing.put_head.Statement.{statement}
-use Rattle.codec.proofs.writing.put_head.Tie as tie
+use Rattle.codec.proofs.laying.put_head.Statement.{statement}
+use Rattle.codec.proofs.laying.put_head.Tie as tie
 
 returns : tie.Need-returns
 returns c = unwritten _ _ _ (omega arith)

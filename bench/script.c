@@ -1,0 +1,456 @@
+/* script CASE FULLNESS N: on standard output, a script (docs/REPLAY.md) that sets up what stands, so many per cent full,
+ * and then makes the call of the case N times. CASE/base has the case's base in the call's place. */
+#include <stdint.h>
+#include <stdio.h>
+#include <stdlib.h>
+#include <string.h>
+
+enum { LOG_SLOTS = 400, LINE_SLOTS = 64, LAST_REGIME_END = 13632480, PERIOD_YEARS = 5, SPARE = 4 };
+
+/* ---- Fields, put together in memory */
+
+static struct {
+    uint8_t bytes[1 << 17];
+    size_t used;
+} made;
+
+static void put(size_t width, uint64_t number)
+{
+    while (width-- > 0)
+        made.bytes[made.used++] = (uint8_t)(number >> 8 * width);
+}
+
+/* Begins a field and gives its place; its length comes at the end. */
+static size_t begin(uint8_t tag)
+{
+    const size_t place = made.used;
+    put(1, tag);
+    put(2, 0);
+    return place;
+}
+
+static void end(size_t place)
+{
+    const size_t length = made.used - place - 3;
+    made.bytes[place + 1] = (uint8_t)(length >> 8);
+    made.bytes[place + 2] = (uint8_t)length;
+}
+
+/* A field with one number. */
+static void short_field(uint8_t tag, size_t width, uint64_t number)
+{
+    const size_t place = begin(tag);
+    put(width, number);
+    end(place);
+}
+
+static void put_outage(uint32_t start, uint32_t minutes, uint16_t mw)
+{
+    put(4, start);
+    put(4, start + minutes);
+    put(2, mw);
+}
+
+static void put_line(unsigned i)
+{
+    put(1, i % 11 + 1);
+    put(1, i % 2);
+    put(8, 1000000 + 1000 * i);
+}
+
+/* ---- The log that stands: outages over years 1 to 5, with room before, between and after them */
+
+static uint32_t start_of(unsigned i)
+{
+    return 6000 * (i + 1);
+}
+
+static unsigned part(unsigned slots, unsigned fullness)
+{
+    return slots * fullness / 100;
+}
+
+static void stand_log(unsigned count)
+{
+    for (unsigned i = 0; i < count; i++) {
+        const size_t place = begin(32);
+        put(2, i);
+        put_outage(start_of(i), 3000, 500);
+        end(place);
+    }
+    const size_t place = begin(33);
+    put(8, count);
+    put(4, LAST_REGIME_END);
+    end(place);
+}
+
+/* Where one more outage is to find room. */
+static unsigned with_room(unsigned fullness)
+{
+    const unsigned count = part(LOG_SLOTS, fullness);
+    return count < LOG_SLOTS ? count : LOG_SLOTS - 1;
+}
+
+/* Where there has to be an outage. */
+static unsigned with_one(unsigned fullness)
+{
+    const unsigned count = part(LOG_SLOTS, fullness);
+    return count > 0 ? count : 1;
+}
+
+static void stand_to_enter(unsigned fullness)
+{
+    stand_log(with_room(fullness));
+}
+
+/* The same log in the spare year, to be taken from there again. */
+static void stand_to_cancel(unsigned fullness)
+{
+    stand_log(with_one(fullness));
+    short_field(38, 1, SPARE);
+}
+
+static void stand_one(unsigned fullness)
+{
+    stand_log(with_one(fullness));
+}
+
+static void stand_entries(unsigned fullness)
+{
+    stand_log(part(LOG_SLOTS, fullness));
+}
+
+static void stand_nothing(unsigned fullness)
+{
+    (void)fullness;
+}
+
+/* ---- The years that stand: 1 to 5 at places 0 to 4, each with lines and with the log that stands as its own */
+
+static void stand_year(unsigned k, unsigned lines)
+{
+    const size_t place = begin(35);
+    put(1, k);
+    put(1, k + 1);
+    put(4, 10000 + 200 * k);
+    put(4, 86000);
+    put(2, 10100);
+    put(2, 10000);
+    put(2, 10000);
+    put(1, 0);
+    put(8, 100000 * k);
+    put(8, lines);
+    end(place);
+    for (unsigned i = 0; i < lines; i++) {
+        const size_t line = begin(36);
+        put(1, k);
+        put(1, i);
+        put_line(i);
+        end(line);
+    }
+    short_field(38, 1, k);
+}
+
+static void stand_years(unsigned fullness)
+{
+    stand_entries(fullness);
+    for (unsigned k = 0; k < PERIOD_YEARS; k++)
+        stand_year(k, part(LINE_SLOTS, fullness));
+}
+
+/* ---- The return: of year 2; at 100 % the longest there is, at 0 % the shortest */
+
+static void put_return(unsigned fullness)
+{
+    short_field(1, 1, 2);
+    short_field(2, 4, 10200);
+    short_field(3, 4, 86000);
+    short_field(4, 2, 10100);
+    if (fullness == 0)
+        return;
+    short_field(5, 4, 9000 << 16 | 9500);
+    for (unsigned i = 0; i < part(LINE_SLOTS, fullness); i++) {
+        const size_t line = begin(6);
+        put_line(i);
+        end(line);
+    }
+    for (unsigned i = 0; i < part(LOG_SLOTS, fullness); i++) {
+        const size_t outage = begin(7);
+        put_outage(482400 + 1000 * i, 500, 300);
+        end(outage);
+    }
+    short_field(8, 1, 1);
+    short_field(9, 8, 250000);
+}
+
+static size_t return_length(unsigned fullness)
+{
+    const size_t before = made.used;
+    put_return(fullness);
+    const size_t length = made.used - before;
+    made.used = before;
+    return length;
+}
+
+/* A return whose first tag is unknown: refused at place 0. */
+static void put_refused_return(unsigned fullness)
+{
+    const size_t first = made.used;
+    put_return(fullness);
+    made.bytes[first] = 0;
+}
+
+static void read_with(void (*bytes)(unsigned), unsigned fullness)
+{
+    const size_t place = begin(17);
+    put(1, 1);
+    bytes(fullness);
+    end(place);
+}
+
+static void refile_with(void (*bytes)(unsigned), unsigned fullness)
+{
+    const size_t place = begin(19);
+    put(2, return_length(fullness));
+    bytes(fullness);
+    end(place);
+}
+
+static void print_with(void (*bytes)(unsigned), unsigned fullness)
+{
+    const size_t place = begin(20);
+    bytes(fullness);
+    end(place);
+}
+
+/* ---- Calls */
+
+static void enter(uint32_t start)
+{
+    const size_t place = begin(2);
+    put_outage(start, 1000, 200);
+    end(place);
+}
+
+static void cancel(uint32_t start)
+{
+    short_field(3, 4, start);
+}
+
+static void enter_front(unsigned fullness)
+{
+    (void)fullness;
+    enter(1000);
+    cancel(1000);
+}
+
+static void enter_end(unsigned fullness)
+{
+    (void)fullness;
+    enter(start_of(LOG_SLOTS));
+    cancel(start_of(LOG_SLOTS));
+}
+
+static void enter_shared(unsigned fullness)
+{
+    (void)fullness;
+    enter(start_of(0) - 1);
+}
+
+static void cancel_none(unsigned fullness)
+{
+    (void)fullness;
+    cancel(1000);
+}
+
+static void cancel_front(unsigned fullness)
+{
+    (void)fullness;
+    cancel(start_of(0));
+    short_field(39, 1, SPARE);
+}
+
+static void cancel_end(unsigned fullness)
+{
+    cancel(start_of(with_one(fullness) - 1));
+    short_field(39, 1, SPARE);
+}
+
+static void lost(unsigned fullness)
+{
+    (void)fullness;
+    const size_t place = begin(4);
+    put(4, 0);
+    put(4, LAST_REGIME_END);
+    end(place);
+}
+
+static void levels(unsigned fullness)
+{
+    (void)fullness;
+    short_field(8, 1, 1);
+}
+
+static void revenue(unsigned fullness)
+{
+    (void)fullness;
+    short_field(9, 1, 1);
+}
+
+static void period(unsigned fullness)
+{
+    (void)fullness;
+    end(begin(11));
+}
+
+static void settle(unsigned fullness)
+{
+    (void)fullness;
+    const size_t place = begin(15);
+    put(8, (uint64_t)-10000001);
+    put(4, 44927);
+    put(4, 45291);
+    put(4, 45383);
+    put(4, 45747);
+    end(place);
+}
+
+static void read_call(unsigned fullness)
+{
+    read_with(put_return, fullness);
+}
+
+static void write_call(unsigned fullness)
+{
+    const size_t place = begin(18);
+    put(1, 1);
+    put(2, return_length(fullness));
+    end(place);
+}
+
+static void refile(unsigned fullness)
+{
+    refile_with(put_return, fullness);
+}
+
+static void print(unsigned fullness)
+{
+    print_with(put_return, fullness);
+}
+
+/* ---- Bases: the cheapest call of the like kind */
+
+/* An entry of the growth table: a short call and a short answer. */
+static void growth(unsigned fullness)
+{
+    (void)fullness;
+    short_field(13, 4, 100);
+}
+
+static void two_growths(unsigned fullness)
+{
+    growth(fullness);
+    growth(fullness);
+}
+
+static void growth_and_take(unsigned fullness)
+{
+    growth(fullness);
+    short_field(39, 1, SPARE);
+}
+
+static void read_refused(unsigned fullness)
+{
+    read_with(put_refused_return, fullness);
+}
+
+static void refile_refused(unsigned fullness)
+{
+    refile_with(put_refused_return, fullness);
+}
+
+/* No bytes, refused at place 0, with the room that the return takes. */
+static void refile_nothing(unsigned fullness)
+{
+    refile_with(stand_nothing, fullness);
+}
+
+static void refile_no_room(unsigned fullness)
+{
+    (void)fullness;
+    short_field(19, 2, 0);
+}
+
+static void print_refused(unsigned fullness)
+{
+    print_with(put_refused_return, fullness);
+}
+
+/* ---- Cases */
+
+struct bench_case {
+    const char *name;
+    void (*stand)(unsigned fullness);
+    void (*call)(unsigned fullness);
+    void (*base)(unsigned fullness);
+};
+
+static const struct bench_case CASES[] = {
+    {"log-sum", stand_nothing, cancel_none, lost},
+    {"fresh", stand_nothing, refile_no_room, growth},
+    {"enter-front", stand_to_enter, enter_front, two_growths},
+    {"enter-end", stand_to_enter, enter_end, two_growths},
+    {"enter-shared", stand_one, enter_shared, growth},
+    {"cancel-front", stand_to_cancel, cancel_front, growth_and_take},
+    {"cancel-end", stand_to_cancel, cancel_end, growth_and_take},
+    {"cancel-none", stand_entries, cancel_none, growth},
+    {"lost", stand_entries, lost, growth},
+    {"levels", stand_years, levels, growth},
+    {"revenue", stand_years, revenue, growth},
+    {"period", stand_years, period, growth},
+    {"settle", stand_nothing, settle, growth},
+    {"read", stand_nothing, read_call, read_refused},
+    {"write", read_call, write_call, refile_nothing},
+    {"refile", stand_nothing, refile, refile_refused},
+    {"print", stand_nothing, print, print_refused},
+};
+
+static const struct bench_case *case_of(const char *name, size_t length)
+{
+    for (size_t i = 0; i < sizeof CASES / sizeof *CASES; i++)
+        if (strlen(CASES[i].name) == length && memcmp(CASES[i].name, name, length) == 0)
+            return &CASES[i];
+    return NULL;
+}
+
+static int write_script(const struct bench_case *of, int base, unsigned fullness, unsigned long times)
+{
+    of->stand(fullness);
+    fwrite(made.bytes, 1, made.used, stdout);
+    made.used = 0;
+    (base ? of->base : of->call)(fullness);
+    for (unsigned long i = 0; i < times; i++)
+        fwrite(made.bytes, 1, made.used, stdout);
+    return fflush(stdout) == 0 ? 0 : 1;
+}
+
+int main(int words, char **word)
+{
+    const struct bench_case *of = NULL;
+    int base = 0;
+    if (words == 4) {
+        const size_t length = strcspn(word[1], "/");
+        of = case_of(word[1], length);
+        base = strcmp(word[1] + length, "/base") == 0;
+        if (!base && word[1][length] != '\0')
+            of = NULL;
+    }
+    if (!of || atoi(word[2]) < 0 || atoi(word[2]) > 100) {
+        fprintf(stderr, "use: script CASE[/base] FULLNESS N, FULLNESS of 0 to 100; cases:");
+        for (size_t i = 0; i < sizeof CASES / sizeof *CASES; i++)
+            fprintf(stderr, " %s", CASES[i].name);
+        fprintf(stderr, "\n");
+        return 2;
+    }
+    return write_script(of, base, (unsigned)atoi(word[2]), strtoul(word[3], NULL, 10));
+}

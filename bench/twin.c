@@ -1,0 +1,656 @@
+/* The C twin of `replay`: carries out a script of calls on standard input and prints each answer (docs/REPLAY.md). */
+#include "books.h"
+
+long read(int file, void *to, size_t size);
+long write(int file, const void *from, size_t size);
+
+/* ---- What stands */
+
+static struct log the_log;
+static struct book the_book;
+static struct year years[PERIOD_YEARS];
+
+/* ---- Answers */
+
+static struct {
+    uint8_t bytes[1 << 16];
+    size_t used;
+} out;
+
+static void flush(void)
+{
+    size_t done = 0;
+    while (done < out.used) {
+        const long wrote = write(1, out.bytes + done, out.used - done);
+        if (wrote <= 0)
+            break;
+        done += (size_t)wrote;
+    }
+    out.used = 0;
+}
+
+/* Room for a blank and a number, or for a newline. */
+static uint8_t *room(void)
+{
+    if (out.used + 32 > sizeof out.bytes)
+        flush();
+    return out.bytes + out.used;
+}
+
+/* The first number of a line. */
+static void begin(uint64_t number)
+{
+    out.used += put_decimal(room(), number);
+}
+
+static void figure(uint64_t number)
+{
+    uint8_t *to = room();
+    *to = ' ';
+    out.used += 1 + put_decimal(to + 1, number);
+}
+
+static void signed_figure(int64_t number)
+{
+    uint8_t *to = room();
+    *to = ' ';
+    out.used += 1 + put_signed(to + 1, number);
+}
+
+static void end_line(void)
+{
+    *room() = '\n';
+    out.used++;
+}
+
+/* ---- Checksums */
+
+static inline uint64_t add(uint64_t sum, uint32_t number)
+{
+    return (sum * 65599 + number) % 4294967291;
+}
+
+static inline uint64_t add_wide(uint64_t sum, uint64_t number)
+{
+    return add(add(sum, (uint32_t)(number >> 32)), (uint32_t)number);
+}
+
+static uint64_t add_log(uint64_t sum, const struct log *log)
+{
+    for (size_t i = 0; i < LOG_SLOTS; i++) {
+        sum = add(sum, log->entries[i].start);
+        sum = add(sum, log->entries[i].end);
+        sum = add(sum, log->entries[i].mw);
+    }
+    return add(add_wide(sum, log->count), log->regime_end);
+}
+
+static uint64_t year_sum(const struct year *y)
+{
+    uint64_t sum = add(add(add(0, y->number), y->pppi), y->rate);
+    sum = add(add(add(sum, y->aic), y->pyc), y->pyf);
+    for (size_t i = 0; i < LINE_SLOTS; i++) {
+        sum = add(add(sum, y->lines[i].kind), y->lines[i].currency);
+        sum = add_wide(sum, (uint64_t)y->lines[i].amount);
+    }
+    sum = add(add_wide(sum, y->line_count), y->exceptional);
+    return add_log(add_wide(sum, (uint64_t)y->within), &y->log);
+}
+
+static uint64_t byte_sum(const uint8_t *bytes, size_t length)
+{
+    uint64_t sum = 0;
+    for (size_t i = 0; i < length; i++)
+        sum = add(sum, bytes[i]);
+    return sum;
+}
+
+/* ---- Calls: each takes its value and prints its answer, or gives false where the value is malformed */
+
+struct value {
+    const uint8_t *bytes;
+    size_t length;
+};
+
+static void answer_log(int number)
+{
+    begin((uint64_t)number);
+    figure(the_log.count);
+    figure(add_log(0, &the_log));
+    end_line();
+}
+
+static void answer_unsigned(int number, uint64_t one)
+{
+    begin((uint64_t)number);
+    figure(one);
+    end_line();
+}
+
+static void answer_signed(int number, int64_t one)
+{
+    begin((uint64_t)number);
+    signed_figure(one);
+    end_line();
+}
+
+static void answer_two(int number, uint64_t one, uint64_t other)
+{
+    begin((uint64_t)number);
+    figure(one);
+    figure(other);
+    end_line();
+}
+
+static void answer_assessment(int number, const struct assessment *found)
+{
+    begin((uint64_t)number);
+    signed_figure(found->revenue);
+    signed_figure(found->cap);
+    signed_figure(found->floor);
+    signed_figure(found->within);
+    signed_figure(found->held);
+    signed_figure(found->adjustment);
+    end_line();
+}
+
+static bool answer_set(void)
+{
+    begin(0);
+    end_line();
+    return true;
+}
+
+/* The year at the place that a value begins with, if there is such a place. */
+static struct year *year_at(struct value v)
+{
+    return v.bytes[0] < PERIOD_YEARS ? &years[v.bytes[0]] : NULL;
+}
+
+static struct entry entry_of(const uint8_t *bytes)
+{
+    return (struct entry){get32(bytes), get32(bytes + 4), get16(bytes + 8)};
+}
+
+static struct period period_of(const uint8_t *bytes)
+{
+    return (struct period){get32(bytes), get32(bytes + 4)};
+}
+
+static int64_t amount_of(const uint8_t *bytes)
+{
+    return (int64_t)get64(bytes);
+}
+
+static bool call_empty(struct value v)
+{
+    answer_log(empty_log(&the_log, get32(v.bytes)));
+    return true;
+}
+
+static bool call_enter(struct value v)
+{
+    answer_log(enter(&the_log, entry_of(v.bytes)));
+    return true;
+}
+
+static bool call_cancel(struct value v)
+{
+    answer_log(cancel(&the_log, get32(v.bytes)));
+    return true;
+}
+
+static bool call_lost(struct value v)
+{
+    uint64_t lost;
+    const int number = lost_energy(&the_log, get32(v.bytes), get32(v.bytes + 4), &lost);
+    answer_unsigned(number, lost);
+    return true;
+}
+
+static bool call_minutes(struct value v)
+{
+    struct span span;
+    const int number = year_minutes(v.bytes[0], get32(v.bytes + 1), &span);
+    answer_two(number, span.first, span.end);
+    return true;
+}
+
+static bool call_availability(struct value v)
+{
+    uint64_t energy;
+    const int number = availability_of(&the_book, &the_log, v.bytes[0], &energy);
+    answer_unsigned(number, energy);
+    return true;
+}
+
+static bool call_target(struct value v)
+{
+    bool met;
+    const int number = target_met(&the_book, &the_log, v.bytes[0], &met);
+    answer_unsigned(number, met);
+    return true;
+}
+
+static bool call_levels(struct value v)
+{
+    struct year *year = year_at(v);
+    struct levels levels;
+    if (!year)
+        return false;
+    const int number = levels_of(&the_book, year, &the_log, &levels);
+    answer_two(number, (uint64_t)levels.cap, (uint64_t)levels.floor);
+    return true;
+}
+
+static bool call_revenue(struct value v)
+{
+    struct year *year = year_at(v);
+    int64_t pounds;
+    if (!year)
+        return false;
+    const int number = revenue_of(year, &pounds);
+    answer_signed(number, pounds);
+    return true;
+}
+
+static bool call_assess(struct value v)
+{
+    struct row rows[PERIOD_YEARS];
+    struct assessment found;
+    for (size_t k = 0; k < PERIOD_YEARS; k++) {
+        const uint8_t *at = v.bytes + 36 * k;
+        rows[k] = (struct row){get32(at), amount_of(at + 4), amount_of(at + 12), amount_of(at + 20), amount_of(at + 28)};
+    }
+    const int number = assess(rows, &found);
+    answer_assessment(number, &found);
+    return true;
+}
+
+static bool call_period(struct value v)
+{
+    struct assessment found;
+    (void)v;
+    const int number = assess_period(&the_book, years, &the_log, &found);
+    answer_assessment(number, &found);
+    return true;
+}
+
+static bool call_gap(struct value v)
+{
+    uint32_t n;
+    const int number = gap_between(period_of(v.bytes), period_of(v.bytes + 8), &n);
+    answer_unsigned(number, n);
+    return true;
+}
+
+static bool call_growth(struct value v)
+{
+    uint64_t entry;
+    const int number = growth_at(get32(v.bytes), &entry);
+    answer_unsigned(number, entry);
+    return true;
+}
+
+static bool call_pay(struct value v)
+{
+    int64_t pounds;
+    const int number = pay(amount_of(v.bytes), get32(v.bytes + 8), &pounds);
+    answer_signed(number, pounds);
+    return true;
+}
+
+static bool call_settle(struct value v)
+{
+    int64_t pounds;
+    const int number = settle(amount_of(v.bytes), period_of(v.bytes + 8), period_of(v.bytes + 16), &pounds);
+    answer_signed(number, pounds);
+    return true;
+}
+
+static bool call_reconcile(struct value v)
+{
+    int64_t pounds;
+    const int number = reconcile(amount_of(v.bytes), amount_of(v.bytes + 8), period_of(v.bytes + 16),
+                                 period_of(v.bytes + 24), &pounds);
+    answer_signed(number, pounds);
+    return true;
+}
+
+/* ---- Calls on a return */
+
+static uint8_t lent[1 << 16];
+
+/* The buffer that is lent: byte i is 255 less i mod 251. */
+static void lend(size_t size)
+{
+    for (size_t i = 0; i < size; i++)
+        lent[i] = (uint8_t)(255 - i % 251);
+}
+
+static bool call_read(struct value v)
+{
+    struct year *year = year_at(v);
+    size_t place;
+    if (!year)
+        return false;
+    const int number = read_return(v.bytes + 1, v.length - 1, year, &place);
+    answer_two(number, place, year_sum(year));
+    return true;
+}
+
+static bool call_write(struct value v)
+{
+    struct year *year = year_at(v);
+    const size_t size = get16(v.bytes + 1);
+    size_t length;
+    if (!year)
+        return false;
+    lend(size);
+    const int number = write_return(year, lent, size, &length);
+    answer_two(number, length, byte_sum(lent, size));
+    return true;
+}
+
+static bool call_refile(struct value v)
+{
+    const size_t size = get16(v.bytes);
+    size_t length;
+    lend(size);
+    const int number = refile(v.bytes + 2, v.length - 2, lent, size, &length);
+    answer_two(number, length, byte_sum(lent, size));
+    return true;
+}
+
+static bool call_sheet(struct value v)
+{
+    uint8_t text[SHEET_BYTES];
+    const size_t length = print_return(v.bytes, v.length, text);
+    answer_two(0, length, byte_sum(text, length));
+    return true;
+}
+
+/* ---- Setting what stands */
+
+static bool set_slot(struct value v)
+{
+    const size_t slot = get16(v.bytes);
+    if (slot >= LOG_SLOTS)
+        return false;
+    the_log.entries[slot] = entry_of(v.bytes + 2);
+    return answer_set();
+}
+
+static bool set_count(struct value v)
+{
+    the_log.count = get64(v.bytes);
+    the_log.regime_end = get32(v.bytes + 8);
+    return answer_set();
+}
+
+static bool set_book(struct value v)
+{
+    const uint8_t *at = v.bytes;
+    the_book = (struct book){
+        .regime_end = get32(at),
+        .first_target = get32(at + 4),
+        .last_target = get32(at + 8),
+        .pcl = amount_of(at + 12),
+        .pfl = amount_of(at + 20),
+        .pcac = amount_of(at + 28),
+        .pcaf = amount_of(at + 36),
+        .orac = amount_of(at + 44),
+        .oraf = amount_of(at + 52),
+        .miss_factor = get16(at + 60),
+    };
+    return answer_set();
+}
+
+static bool set_year(struct value v)
+{
+    struct year *year = year_at(v);
+    const uint8_t *at = v.bytes + 1;
+    if (!year || at[15] > 1)
+        return false;
+    year->number = at[0];
+    year->pppi = get32(at + 1);
+    year->rate = get32(at + 5);
+    year->aic = get16(at + 9);
+    year->pyc = get16(at + 11);
+    year->pyf = get16(at + 13);
+    year->exceptional = at[15] == 1;
+    year->within = amount_of(at + 16);
+    year->line_count = get64(at + 24);
+    return answer_set();
+}
+
+static bool set_line(struct value v)
+{
+    struct year *year = year_at(v);
+    if (!year || v.bytes[1] >= LINE_SLOTS)
+        return false;
+    year->lines[v.bytes[1]] = (struct line){v.bytes[2], v.bytes[3], amount_of(v.bytes + 4)};
+    return answer_set();
+}
+
+static bool set_fresh(struct value v)
+{
+    struct year *year = year_at(v);
+    if (!year)
+        return false;
+    fresh_year(year);
+    return answer_set();
+}
+
+static bool set_year_log(struct value v)
+{
+    struct year *year = year_at(v);
+    if (!year)
+        return false;
+    year->log = the_log;
+    return answer_set();
+}
+
+static bool set_log(struct value v)
+{
+    struct year *year = year_at(v);
+    if (!year)
+        return false;
+    the_log = year->log;
+    return answer_set();
+}
+
+/* ---- Showing what stands */
+
+static void show_entries(const struct log *log)
+{
+    for (size_t i = 0; i < LOG_SLOTS; i++) {
+        figure(log->entries[i].start);
+        figure(log->entries[i].end);
+        figure(log->entries[i].mw);
+    }
+    end_line();
+}
+
+static bool show_log(struct value v)
+{
+    (void)v;
+    begin(the_log.count);
+    figure(the_log.regime_end);
+    show_entries(&the_log);
+    return true;
+}
+
+static bool show_year(struct value v)
+{
+    struct year *year = year_at(v);
+    if (!year)
+        return false;
+    begin(year->number);
+    figure(year->pppi);
+    figure(year->rate);
+    figure(year->aic);
+    figure(year->pyc);
+    figure(year->pyf);
+    figure(year->line_count);
+    figure(year->exceptional);
+    signed_figure(year->within);
+    for (size_t i = 0; i < LINE_SLOTS; i++) {
+        figure(year->lines[i].kind);
+        figure(year->lines[i].currency);
+        signed_figure(year->lines[i].amount);
+    }
+    figure(year->log.count);
+    figure(year->log.regime_end);
+    show_entries(&year->log);
+    return true;
+}
+
+static bool show_book(struct value v)
+{
+    (void)v;
+    begin(the_book.regime_end);
+    figure(the_book.first_target);
+    figure(the_book.last_target);
+    signed_figure(the_book.pcl);
+    signed_figure(the_book.pfl);
+    signed_figure(the_book.pcac);
+    signed_figure(the_book.pcaf);
+    signed_figure(the_book.orac);
+    signed_figure(the_book.oraf);
+    figure(the_book.miss_factor);
+    end_line();
+    return true;
+}
+
+static bool show_written(struct value v)
+{
+    struct year *year = year_at(v);
+    const size_t size = get16(v.bytes + 1);
+    size_t length;
+    if (!year)
+        return false;
+    lend(size);
+    const int number = write_return(year, lent, size, &length);
+    begin((uint64_t)number);
+    figure(length);
+    for (size_t i = 0; i < size; i++)
+        figure(lent[i]);
+    end_line();
+    return true;
+}
+
+/* ---- The script */
+
+/* A tag's call and the length of its value: exactly so many bytes, or at least so many where a return follows. */
+struct call {
+    bool (*carry_out)(struct value v);
+    size_t length;
+    bool open;
+};
+
+static const struct call CALLS[] = {
+    [1] = {call_empty, 4, false},
+    [2] = {call_enter, 10, false},
+    [3] = {call_cancel, 4, false},
+    [4] = {call_lost, 8, false},
+    [5] = {call_minutes, 5, false},
+    [6] = {call_availability, 1, false},
+    [7] = {call_target, 1, false},
+    [8] = {call_levels, 1, false},
+    [9] = {call_revenue, 1, false},
+    [10] = {call_assess, 180, false},
+    [11] = {call_period, 0, false},
+    [12] = {call_gap, 16, false},
+    [13] = {call_growth, 4, false},
+    [14] = {call_pay, 12, false},
+    [15] = {call_settle, 24, false},
+    [16] = {call_reconcile, 32, false},
+    [17] = {call_read, 1, true},
+    [18] = {call_write, 3, false},
+    [19] = {call_refile, 2, true},
+    [20] = {call_sheet, 0, true},
+    [32] = {set_slot, 12, false},
+    [33] = {set_count, 12, false},
+    [34] = {set_book, 62, false},
+    [35] = {set_year, 33, false},
+    [36] = {set_line, 12, false},
+    [37] = {set_fresh, 1, false},
+    [38] = {set_year_log, 1, false},
+    [39] = {set_log, 1, false},
+    [48] = {show_log, 0, false},
+    [49] = {show_year, 1, false},
+    [50] = {show_book, 0, false},
+    [51] = {show_written, 3, false},
+};
+
+/* What was read of the script and is not carried out yet: from `at` to `end`. */
+static struct {
+    uint8_t bytes[1 << 17];
+    size_t at;
+    size_t end;
+} in;
+
+/* Reads on until so many bytes are there; false where the script ends before. */
+static bool fill(size_t wanted)
+{
+    if (in.end - in.at >= wanted)
+        return true;
+    memmove(in.bytes, in.bytes + in.at, in.end - in.at);
+    in.end -= in.at;
+    in.at = 0;
+    while (in.end < wanted) {
+        const long got = read(0, in.bytes + in.end, sizeof in.bytes - in.end);
+        if (got <= 0)
+            return false;
+        in.end += (size_t)got;
+    }
+    return true;
+}
+
+/* Carries out the next field, which is there at least in part, and gives its length, or 0 where it is malformed. */
+static size_t next_field(void)
+{
+    if (!fill(3))
+        return 0;
+    const uint8_t tag = in.bytes[in.at];
+    const size_t length = get16(in.bytes + in.at + 1);
+    if (tag >= sizeof CALLS / sizeof *CALLS || !CALLS[tag].carry_out || !fill(3 + length))
+        return 0;
+    const struct call *call = &CALLS[tag];
+    if (length < call->length || (length > call->length && !call->open))
+        return 0;
+    const struct value v = {in.bytes + in.at + 3, length};
+    if (!call->carry_out(v))
+        return 0;
+    in.at += 3 + length;
+    return 3 + length;
+}
+
+static void put_malformed(uint64_t place)
+{
+    static const char word[] = "malformed ";
+    memcpy(room(), word, sizeof word - 1);
+    out.used += sizeof word - 1;
+    begin(place);
+    end_line();
+}
+
+int main(void)
+{
+    uint64_t place = 0;
+    empty_log(&the_log, LAST_REGIME_END);
+    fresh_book(&the_book);
+    for (size_t k = 0; k < PERIOD_YEARS; k++)
+        fresh_year(&years[k]);
+    while (fill(1)) {
+        const size_t length = next_field();
+        if (length == 0) {
+            put_malformed(place);
+            break;
+        }
+        place += length;
+    }
+    flush();
+    return 0;
+}
