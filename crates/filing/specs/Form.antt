@@ -110,8 +110,20 @@ abbrev pub within : Codec ℤ
 within = opt (tagged 9 withinValue) (pos 0) isNone
 
 -- ---- "Tags ascend; only 06 and 07 repeat."
+-- all that follows the four required fields
+abbrev pub BodyParts : Type 0
+BodyParts = (ℕ × ℕ) × (List Line × (List Entry × (ℕ × ℤ)))
+
+abbrev pub body : ℕ → Codec BodyParts
+body number =
+    both (factors number) (λ f.
+    both lines (λ l.
+    both (outages number) (λ o.
+    both mark (λ m.
+    within))))
+
 abbrev pub Parts : Type 0
-Parts = ℕ × (ℕ × (ℕ × (ℕ × ((ℕ × ℕ) × (List Line × (List Entry × (ℕ × ℤ)))))))
+Parts = ℕ × (ℕ × (ℕ × (ℕ × BodyParts)))
 
 unfoldable pub form : Codec Parts
 form =
@@ -119,8 +131,4 @@ form =
     both (one (tagged 2 pppiValue)) (λ pppi.
     both (one (tagged 3 rateValue)) (λ rate.
     both (one (tagged 4 aicValue)) (λ aic.
-    both (factors number) (λ f.
-    both lines (λ l.
-    both (outages number) (λ o.
-    both mark (λ m.
-    within))))))))
+    body number))))

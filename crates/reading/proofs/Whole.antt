@@ -15,12 +15,12 @@ use Rattle.calendar.specs.Years.{goodYear}
 use Rattle.refusals.specs.declared.Answer.the-variants.{Done}
 use Rattle.year.specs.declared.Year.{Year}
 use Rattle.filing.specs.declared.Return.{Return}
-use Rattle.filing.specs.Form.{yearValue, pppiValue, rateValue, aicValue, Parts, form}
+use Rattle.filing.specs.Form.{yearValue, pppiValue, rateValue, aicValue, Parts, form, BodyParts, body}
 use Rattle.filing.specs.Return.{mostBytes, yearOf, whole, refused, finish, readingOf, refusedAt}
 use Rattle.reading.specs.declared.Head.{Head}
 use Rattle.reading.specs.declared.Body.{Body}
 use Rattle.reading.specs.declared.Required.the-variants as R
-use Rattle.reading.specs.Steps.{HeadParts, head, headFound, HeadRead, BodyParts, body, BodyRead, ReturnGives}
+use Rattle.reading.specs.Steps.{HeadParts, head, headFound, HeadRead, BodyRead, ReturnGives}
 use Rattle.codec.specs.Format.{Value, field, tagged, Res, got, stuck, Codec, malformed, one, need, pairUp, andThen, both, ReadAt}
 use Rattle.codec.proofs.Positions.{field-range, drop-more, one-some}
 

@@ -5,7 +5,6 @@ use mathlib.Core.Option.{Option, some, none}
 use mathlib.Core.Path.{_≡_}
 use Prim.Native.Nat.{ℕ, _-_}
 use lib.Dec.{leb, ltb}
-use lib.IntN.{ℤ}
 use lib.ListN.{length}
 use Rattle.outage.specs.declared.Entry.{Entry}
 use Rattle.outage.specs.Log.{lastRegimeEnd, goodEntry, holding}
@@ -13,7 +12,7 @@ use Rattle.year.specs.declared.Line.{Line}
 use Rattle.calendar.specs.Years.{goodYear}
 use Rattle.codec.specs.Format.{Value, such, tagged, Res, got, stuck, Codec, one, both, ReadAt}
 use Rattle.filing.specs.declared.Return.{Return}
-use Rattle.filing.specs.Form.{yearValue, pppiValue, rateValue, aicValue, entryLayout, factors, lines, outages, mark, within}
+use Rattle.filing.specs.Form.{yearValue, pppiValue, rateValue, aicValue, entryLayout, lines, outages, body}
 use Rattle.filing.specs.Return.{padded, readRows, readPlace, readYear}
 use Rattle.refusals.specs.Refusals.{answerNumber, lowest}
 use Rattle.reading.specs.declared.fields.LineAt.{LineAt}
@@ -83,12 +82,6 @@ pub record HeadRead (s : List ℕ) (h : Head) : Type 0 where
   pub year : goodYear (h .number) ≡ true
 
 -- ---- all that follows them
-abbrev pub BodyParts : Type 0
-BodyParts = (ℕ × ℕ) × (List Line × (List Entry × (ℕ × ℤ)))
-
-abbrev pub body : ℕ → Codec BodyParts
-body number = both (factors number) (λ f. both lines (λ l. both (outages number) (λ o. both mark (λ m. within))))
-
 pub record BodyRead (number : ℕ) (s : List ℕ) (from : ℕ) (r : Body) : Type 0 where
   pub read : List Line
   pub logged : List Entry
