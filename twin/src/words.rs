@@ -132,6 +132,14 @@ impl<'a> Words<'a> {
         Ok(number as u32)
     }
 
+    fn line(&mut self) -> Result<Line, String> {
+        Ok(Line {
+            kind: self.number("the kind")?,
+            currency: self.number("the currency")?,
+            amount: self.number("the amount")?,
+        })
+    }
+
     fn k(&mut self) -> Result<u8, String> {
         match self.number("the place of the year")? {
             k @ 0..=4 => Ok(k),
@@ -173,15 +181,16 @@ impl<'a> Words<'a> {
 }
 
 /// The calls of a line: none where the line is a comment, an expected answer
-/// or blank, several where it fills a log.
+/// or blank, several where it fills a log or a year's lines.
 pub fn parse_line(line: &str) -> Result<Vec<Call>, String> {
     let line = line.trim();
     if line.is_empty() || line.starts_with('#') || line.starts_with('>') {
         return Ok(Vec::new());
     }
     let mut words = Words { left: line.split_whitespace().peekable() };
-    let calls = match words.left.next_if_eq(&"fill") {
-        Some(_) => filling(&mut words)?,
+    let calls = match words.left.next_if(|word| ["fill", "fill-lines"].contains(word)) {
+        Some("fill") => filling(&mut words)?,
+        Some(_) => line_filling(&mut words)?,
         None => vec![parse_call(&mut words)?],
     };
     match words.left.next() {
@@ -208,6 +217,18 @@ fn filling(words: &mut Words) -> Result<Vec<Call>, String> {
     (0..count)
         .map(|place| outage(place).ok_or_else(|| "the minutes do not fit".to_string()))
         .collect()
+}
+
+/// `fill-lines K COUNT KIND CURRENCY AMOUNT`: the first so many line slots of
+/// year K set to the same line.
+fn line_filling(words: &mut Words) -> Result<Vec<Call>, String> {
+    let k = words.k()?;
+    let count: u8 = words.number("how many")?;
+    let line = words.line()?;
+    if count as usize > LINES {
+        return Err("there are 64 line slots".to_string());
+    }
+    Ok((0..count).map(|slot| Call::SetLine { k, slot, line: line.clone() }).collect())
 }
 
 fn parse_call(words: &mut Words) -> Result<Call, String> {
@@ -298,12 +319,7 @@ fn parse_call(words: &mut Words) -> Result<Call, String> {
             if slot as usize >= LINES {
                 return Err("the line slot is not 0 to 63".to_string());
             }
-            let line = Line {
-                kind: words.number("the kind")?,
-                currency: words.number("the currency")?,
-                amount: words.number("the amount")?,
-            };
-            Call::SetLine { k, slot, line }
+            Call::SetLine { k, slot, line: words.line()? }
         }
         "fresh-year" => Call::FreshYear { k: words.k()? },
         "year-log" => Call::YearLog { k: words.k()? },
@@ -411,6 +427,8 @@ mod tests {
         );
         assert_eq!(parse_line("# enter"), Ok(vec![]));
         assert_eq!(parse_line("fill 2 0 10 5 1").map(|calls| calls.len()), Ok(2));
+        assert_eq!(parse_line("fill-lines 0 64 1 0 5").map(|calls| calls.len()), Ok(64));
+        assert!(parse_line("fill-lines 0 65 1 0 5").is_err());
         assert_eq!(parse_line(""), Ok(vec![]));
     }
 
