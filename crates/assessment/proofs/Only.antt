@@ -2,18 +2,13 @@
 use mathlib.Core.Path.{_≡_, refl, sym, _∙_}
 use mathlib.Core.Bool.{true}
 use mathlib.Core.List.{List}
-use Rattle.refusals.specs.Refusals.{lowest, inTurn, standIn}
+use Rattle.refusals.specs.Refusals.{inTurn, standIn}
 use Rattle.outage.specs.declared.Log.{Log}
 use Rattle.year.specs.declared.Year.{Year}
 use Rattle.levels.specs.declared.Book.{Book}
 use Rattle.balances.specs.declared.assessing.Assessment.{Assessment}
-use Rattle.balances.specs.Assessment.{assessNumber, assessFigures}
 use Rattle.balances.proofs.Only.{same-assessment}
-use Rattle.assessment.specs.Period.{periodRows, periodGiven}
-
--- what `assess_period` ensures of its answer
-abbrev pub PeriodGives : Book → List Year → Log → Assessment → Type 0
-PeriodGives book years log r = (assessNumber r ≡ lowest (periodRows book years log)) × (assessFigures r ≡ periodGiven book years log)
+use Rattle.assessment.specs.Period.{periodRows, PeriodGives}
 
 pub only-period : (book : Book) (years : List Year) (log : Log) (r s : Assessment) → PeriodGives book years log r → PeriodGives book years log s → r ≡ s
 only-period book years log r s p q = same-assessment r s (p .0 ∙ sym (q .0)) (p .1 ∙ sym (q .1))

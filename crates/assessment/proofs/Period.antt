@@ -6,7 +6,7 @@ use Prim.Native.Nat.{ℕ, zero, suc, _≤_, _<_}
 use native.Mathlib.Omega.{arith}
 use lib.Dec.{eqb, leb}
 use lib.ListN.{length, getD}
-use lib.IntN.{ℤ, pos, natAbs, _+ℤ_}
+use lib.IntN.{ℤ, pos, _+ℤ_}
 use lib.Signed.{ltZ, nonNeg}
 use Rattle.lists.specs.Lists.{all}
 use Rattle.lists.proofs.Tests.{and-left, and-right, and-made, not-no, not-yes}
@@ -27,19 +27,15 @@ use Rattle.levels.specs.declared.Book.{Book}
 use Rattle.levels.specs.declared.measuring.Availability.{Availability}
 use Rattle.levels.specs.declared.measuring.Availability.the-variants as availability
 use Rattle.levels.specs.Book.{bookHolds, goodBook, goodSum, goodTarget, goodFactor, small, capSum, floorSum}
-use Rattle.levels.specs.Availability.{availabilityRows, availabilityNumber}
+use Rattle.levels.specs.Availability.{availabilityRows, availabilityNumber, AvailabilityGives}
 use Rattle.levels.specs.Levels.{timesOf, levelOf, capLevel, floorOf, levelFits}
-use Rattle.levels.proofs.Only.{AvailabilityGives}
 use Rattle.revenue.specs.Revenue.{assessedRevenue}
-use Rattle.balances.specs.declared.assessing.Yearly.{Yearly}
 use Rattle.balances.specs.declared.assessing.Assessment.{Assessment}
 use Rattle.balances.specs.declared.assessing.Assessment.the-variants.{Refused}
 use Rattle.balances.specs.Balance.{goodIndex, goodAmount, goodAmounts}
-use Rattle.balances.specs.Assessment.{ARN, CLN, FLN, WPAN, assessRows, assessGiven, balancesWithin, figuresOf, goodYearly, noFigures, notNegative}
-use Rattle.balances.proofs.Only.{AssessGives}
-use Rattle.assessment.specs.Period.{periodRows, periodGiven, yearFits, yearlyOf, yearsGood, onePeriod}
+use Rattle.balances.specs.Assessment.{ARN, CLN, FLN, WPAN, assessRows, balancesWithin, figuresOf, goodYearly, noFigures, notNegative, AssessGives}
+use Rattle.assessment.specs.Period.{periodRows, yearFits, yearlyOf, yearsGood, onePeriod, PeriodGives}
 use Rattle.assessment.proofs.Years.{noYear, map-at}
-use Rattle.assessment.proofs.Only.{PeriodGives}
 
 -- ---- levels are not negative
 times-good : (z : ℤ) (factor : ℕ) → nonNeg z ≡ true → nonNeg (timesOf z factor) ≡ true

@@ -1,20 +1,13 @@
 -- One year's amounts, from the answers that its levels and revenue gave. Assumes nothing.
 use mathlib.Core.Path.{_≡_, refl, sym, ap, _∙_}
-use mathlib.Core.Bool.{Bool, true, false, not, cond, _&&_}
-use mathlib.Core.List.{List, [], _∷_, map, _++_}
-use Prim.Native.Nat.{ℕ, zero, suc, _+_, _≤_, _<_}
-use native.Mathlib.Nat.{not-suc-le-zero, le-of-suc-le-suc}
-use native.Mathlib.Numerals.{add-one}
+use mathlib.Core.Bool.{Bool, true, false, cond, _&&_}
+use native.Mathlib.Nat.{not-suc-le-zero}
 use native.Mathlib.Omega.{arith}
 use borrow.Author.Tests.{eq-eqb}
-use lib.Dec.{eqb}
-use lib.ListN.{length, getD, take, drop}
 use lib.IntN.{ℤ, pos}
-use Rattle.lists.specs.Lists.{all}
-use Rattle.lists.proofs.Tests.{and-left, and-right, and-made, not-no, not-yes, and-assoc}
-use Rattle.lists.proofs.Places.{drop-next}
+use Rattle.lists.proofs.Tests.{not-no, and-assoc}
 use Rattle.refusals.specs.declared.Refusal.{Refusal}
-use Rattle.refusals.specs.Refusals.{Rows, lowest, accepted, numberOf}
+use Rattle.refusals.specs.Refusals.{lowest}
 use Rattle.refusals.proofs.Laws.{all-clear, never-zero}
 use Rattle.outage.specs.declared.Log.{Log}
 use Rattle.outage.specs.Log.{validLog}
@@ -24,14 +17,12 @@ use Rattle.levels.specs.declared.Book.{Book}
 use Rattle.levels.specs.declared.levelling.Levels.{Levels}
 use Rattle.levels.specs.declared.levelling.Levels.the-variants as levels
 use Rattle.levels.specs.Book.{bookHolds}
-use Rattle.levels.specs.Levels.{capLevel, floorOf, levelFits, levelsRows, levelsNumber, capFigure, floorFigure, capGiven, floorGiven}
-use Rattle.levels.proofs.Only.{LevelsGives}
+use Rattle.levels.specs.Levels.{capLevel, floorOf, levelFits, levelsRows, levelsNumber, capFigure, floorFigure, LevelsGives}
 use Rattle.revenue.specs.declared.Revenue.{Revenue}
 use Rattle.revenue.specs.declared.Revenue.the-variants as revenue
-use Rattle.revenue.specs.Revenue.{assessedRevenue, revenueRows, revenueNumber, revenueFigure}
-use Rattle.revenue.proofs.Only.{RevenueGives}
+use Rattle.revenue.specs.Revenue.{assessedRevenue, revenueRows, revenueNumber, revenueFigure, RevenueGives}
 use Rattle.assessment.specs.declared.Row.{Row}
-use Rattle.assessment.specs.Period.{yearFits, rowOf, noRow, numbersFrom, goodFrom}
+use Rattle.assessment.specs.Period.{rowOf, noRow}
 
 -- ---- the levels' answer
 pub record Levelled (book : Book) (y : Year) (log : Log) (cap floor : ℤ) : Type 0 where

@@ -1,33 +1,32 @@
 -- Five years, one after the other. Assumes nothing.
 use mathlib.Core.Path.{_≡_, refl, sym, ap, _∙_}
-use mathlib.Core.Bool.{Bool, true, false, not, cond, _&&_}
+use mathlib.Core.Bool.{Bool, true, false, cond, _&&_}
 use mathlib.Core.List.{List, [], _∷_, _++_, map, append-nil}
-use Prim.Native.Nat.{ℕ, zero, suc, _+_, _-_, _%_, _≤_, _<_}
+use Prim.Native.Nat.{ℕ, zero, suc, _+_, _-_, _%_, _<_}
 use native.Mathlib.Nat.{not-suc-le-zero, le-of-suc-le-suc}
 use native.Mathlib.Omega.{arith}
 use borrow.Author.Tests.{eq-eqb, ne-eqb}
 use lib.Dec.{eqb}
 use lib.ListN.{length, getD, take, drop, set, replicate, length-map}
 use lib.Seq.{take-all}
-use lib.IntN.{ℤ, pos}
+use lib.IntN.{pos}
 use Rattle.lists.specs.Lists.{all}
-use Rattle.lists.proofs.Tests.{and-left, and-right, and-made, not-no, not-yes}
+use Rattle.lists.proofs.Tests.{not-no}
 use Rattle.lists.proofs.Places.{drop-next, turned-next}
 use Rattle.refusals.specs.declared.Refusal.{Refusal}
 use Rattle.refusals.specs.declared.Answer.{Answer}
 use Rattle.refusals.specs.declared.Answer.the-variants as answer
-use Rattle.refusals.specs.Refusals.{lowest, numberOf, answerNumber}
+use Rattle.refusals.specs.Refusals.{lowest, answerNumber}
 use Rattle.refusals.proofs.Laws.{all-clear, never-zero}
 use Rattle.outage.specs.declared.Log.{Log}
 use Rattle.year.specs.declared.Year.{Year}
-use Rattle.year.specs.Year.{goodYearRecord, yearRows}
-use Rattle.year.proofs.Only.{CheckGives}
+use Rattle.year.specs.Year.{goodYearRecord, yearRows, CheckGives}
 use Rattle.levels.specs.declared.Book.{Book}
 use Rattle.levels.specs.Levels.{capLevel, floorOf}
 use Rattle.revenue.specs.Revenue.{assessedRevenue}
 use Rattle.balances.specs.declared.assessing.Yearly.{Yearly}
 use Rattle.assessment.specs.declared.Row.{Row}
-use Rattle.assessment.specs.Period.{numbersFrom, startsPeriod, onePeriod, yearsGood, goodFrom, yearlyOf, yearFits, rowOf, noRow, noAmounts, withRow}
+use Rattle.assessment.specs.Period.{numbersFrom, startsPeriod, yearsGood, goodFrom, yearlyOf, yearFits, rowOf, noRow, noAmounts, withRow}
 
 -- what stands for a year past the end of a list
 abbrev pub noYear : Year

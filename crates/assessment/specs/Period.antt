@@ -1,13 +1,14 @@
 -- The assessment of a period: document 000, SC3 19 to 22 (the periods); document 01, "Years and the licence book", "Assessment".
 use mathlib.Core.Bool.{Bool, true, false, cond, not, _&&_}
 use mathlib.Core.List.{List, [], _∷_, map}
+use mathlib.Core.Path.{_≡_}
 use Prim.Native.Nat.{ℕ, suc, _%_}
 use lib.Dec.{eqb}
 use lib.ListN.{replicate, set}
-use lib.IntN.{ℤ, pos}
+use lib.IntN.{pos}
 use lib.Signed.{ltZ}
 use Rattle.lists.specs.Lists.{all}
-use Rattle.refusals.specs.Refusals.{Rows, accepted}
+use Rattle.refusals.specs.Refusals.{Rows, accepted, lowest}
 use Rattle.refusals.specs.declared.Refusal.the-variants.{BadBook, BrokenLog, BadYear, TooLarge, FloorAboveCap}
 use Rattle.outage.specs.declared.Log.{Log}
 use Rattle.outage.specs.Log.{validLog}
@@ -20,7 +21,8 @@ use Rattle.revenue.specs.Revenue.{assessedRevenue}
 use Rattle.balances.specs.declared.assessing.Yearly.{Yearly}
 use Rattle.balances.specs.declared.assessing.Figures.{Figures}
 use Rattle.assessment.specs.declared.Row.{Row}
-use Rattle.balances.specs.Assessment.{ARN, CLN, FLN, WPAN, balancesWithin, figuresOf, noFigures}
+use Rattle.balances.specs.Assessment.{ARN, CLN, FLN, WPAN, balancesWithin, figuresOf, noFigures, assessNumber, assessFigures}
+use Rattle.balances.specs.declared.assessing.Assessment.{Assessment}
 
 -- ---- "Assessment periods are years 1 to 5, 6 to 10 and so on": the numbers follow one another from a period's first year on
 abbrev pub numbersFrom : ℕ → List Year → Bool
@@ -69,6 +71,10 @@ abbrev pub periodGiven : Book → List Year → Log → Figures
 periodGiven book years log =
     let y = yearlyOf book years log in
     cond (accepted (periodRows book years log)) (figuresOf (ARN y 5) (CLN y 5) (FLN y 5) (WPAN y 5)) noFigures
+
+-- what `assess_period` promises of its result
+abbrev pub PeriodGives : Book → List Year → Log → Assessment → Type 0
+PeriodGives book years log r = (assessNumber r ≡ lowest (periodRows book years log)) × (assessFigures r ≡ periodGiven book years log)
 
 -- ---- the same year by year
 abbrev pub noRow : Row

@@ -19,12 +19,10 @@ ghost use mathlib.Core.Path.{_≡_};
 ghost use mathlib.Core.Bool.{cond, true};
 ghost use Prim.Native.Nat.{_<_};
 ghost use Rattle.lists.specs.Lists.{all};
-ghost use Rattle.refusals.specs.Refusals.{lowest};
-ghost use Rattle.balances.specs.Assessment.{assessFigures, assessNumber};
 ghost use Rattle.levels.specs.Book.{bookHolds};
 ghost use Rattle.outage.specs.Log.{validLog};
 ghost use Rattle.year.specs.Year.{goodYearRecord};
-ghost use Rattle.assessment.specs.Period.{goodFrom, noAmounts, noRow, periodGiven, periodRows, rowOf, withRow, yearFits, yearlyOf, yearsGood};
+ghost use Rattle.assessment.specs.Period.{goodFrom, noAmounts, noRow, rowOf, withRow, yearFits, yearlyOf, yearsGood, PeriodGives};
 
 // What one year brings, and whether its levels and revenue fit: zeros where they do not.
 struct Row {
@@ -165,7 +163,7 @@ fn amounts_of(book: Book, years: [Year; 5], log: Log) -> Filled
 
 // The assessment of a period of five years.
 pub fn assess_period(book: Book, years: [Year; 5], log: Log) -> Assessment
-    ensures { λ r. ⌜ (assessNumber r ≡ lowest (periodRows book years log)) × (assessFigures r ≡ periodGiven book years log) ⌝ }
+    ensures { λ r. ⌜ PeriodGives book years log r ⌝ }
 {
     let available = availability_of(book, log, 1);
     if let Availability::Refused(why) = available {

@@ -1,12 +1,13 @@
 -- The assessment: document 000, SC3 4 to 8; document 01, "Assessment". Over any number of years, five among them.
 use mathlib.Core.Bool.{Bool, true, false, cond, not, _&&_, _||_}
 use mathlib.Core.List.{List, [], _∷_}
+use mathlib.Core.Path.{_≡_}
 use Prim.Native.Nat.{ℕ, zero, suc, _-_, _≤_}
 use lib.Dec.{eqb}
 use lib.ListN.{getD}
 use lib.IntN.{ℤ, pos, negℤ, natAbs, _-ℤ_}
 use lib.Signed.{ltZ, nonNeg}
-use Rattle.refusals.specs.Refusals.{Rows, accepted, numberOf}
+use Rattle.refusals.specs.Refusals.{Rows, accepted, numberOf, lowest}
 use Rattle.refusals.specs.declared.Refusal.the-variants.{BadYear, TooLarge, FloorAboveCap}
 use Rattle.balances.specs.declared.carrying.Balance.{Balance}
 use Rattle.balances.specs.declared.carrying.Balance.the-variants.{Is, Over}
@@ -84,6 +85,10 @@ assessNumber (Refused why) = numberOf why
 abbrev pub assessFigures : Assessment → Figures
 assessFigures (Found figures) = figures
 assessFigures (Refused why) = noFigures
+
+-- what `assess` promises of its result
+abbrev pub AssessGives : Yearly → Assessment → Type 0
+AssessGives y r = (assessNumber r ≡ lowest (assessRows y)) × (assessFigures r ≡ assessGiven y)
 
 -- ---- the same from four balances
 abbrev pub isOver : Balance → Bool

@@ -11,22 +11,7 @@ ghost use Prim.Native.Nat.{_≤_};
 ghost use lib.IntN.{natAbs};
 ghost use Rattle.refusals.specs.Refusals.{lowest};
 ghost use Rattle.balances.specs.Balance.{goodAmounts, goodIndex, mostBalance};
-ghost use Rattle.balances.specs.Assessment.{
-  Bounded,
-  assessFigures,
-  assessGiven,
-  assessNumber,
-  assessRows,
-  figuresOf,
-  foundFigures,
-  foundRows,
-  goodYearly,
-  heldBetween,
-  isOver,
-  notNegative,
-  oneOver,
-  valueOf,
-};
+ghost use Rattle.balances.specs.Assessment.{Bounded, assessFigures, assessNumber, figuresOf, foundFigures, foundRows, goodYearly, heldBetween, isOver, notNegative, oneOver, valueOf, AssessGives};
 
 // What an assessment period's years bring: index, assessed revenue, cap and floor level, within-period adjustment.
 pub struct Yearly {
@@ -221,7 +206,7 @@ fn found(revenue: Balance, cap: Balance, floor: Balance, paid: Balance) -> Asses
 
 // The assessment of five years' amounts.
 pub fn assess(y: Yearly) -> Assessment
-    ensures { λ r. ⌜ (assessNumber r ≡ lowest (assessRows y)) × (assessFigures r ≡ assessGiven y) ⌝ }
+    ensures { λ r. ⌜ AssessGives y r ⌝ }
 {
     if !good_yearly(y) {
         return Assessment::Refused(Refusal::BadYear);

@@ -3,16 +3,11 @@ use mathlib.Core.Path.{_≡_, refl, ap}
 use mathlib.Core.Bool.{true}
 use Prim.Native.Nat.{ℕ}
 use native.Mathlib.Omega.{arith}
-use Rattle.refusals.specs.Refusals.{inTurn, lowest, standIn}
+use Rattle.refusals.specs.Refusals.{inTurn, standIn}
 use Rattle.refusals.proofs.Laws.{same-refusal, never-zero}
-use Rattle.calendar.specs.Years.{endOf, firstOf, firstFigure, minutesNumber, endFigure, yearRows}
+use Rattle.calendar.specs.Years.{yearRows, MinutesGives}
 use Rattle.calendar.specs.declared.YearMinutes.{YearMinutes}
 use Rattle.calendar.specs.declared.YearMinutes.the-variants.{Span, Refused}
-
--- what `year_minutes` ensures of its answer
-abbrev pub MinutesGives : ℕ → ℕ → YearMinutes → Type 0
-MinutesGives year regimeEnd r =
-    (minutesNumber r ≡ lowest (yearRows year)) × (firstFigure r ≡ firstOf year) × (endFigure r ≡ endOf year regimeEnd)
 
 -- no second answer fits
 pub only-minutes : (year regimeEnd : ℕ) (r s : YearMinutes) → MinutesGives year regimeEnd r → MinutesGives year regimeEnd s → r ≡ s

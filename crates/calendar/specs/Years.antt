@@ -1,9 +1,10 @@
 -- Document 01, "Years and the licence book": the minutes of a Relevant Year, by the calendar.
-use mathlib.Core.Bool.{Bool, true, false, cond, not, _&&_, _||_}
-use mathlib.Core.List.{List, [], _∷_}
+use mathlib.Core.Bool.{Bool, cond, not, _&&_, _||_}
+use mathlib.Core.List.{[], _∷_}
+use mathlib.Core.Path.{_≡_}
 use Prim.Native.Nat.{ℕ, zero, suc, _+_, _-_, _*_, _%_}
 use lib.Dec.{eqb, leb}
-use Rattle.refusals.specs.Refusals.{Rows, accepted, numberOf}
+use Rattle.refusals.specs.Refusals.{Rows, accepted, numberOf, lowest}
 use Rattle.refusals.specs.declared.Refusal.the-variants.{BadYear}
 use Rattle.calendar.specs.declared.YearMinutes.{YearMinutes}
 use Rattle.calendar.specs.declared.YearMinutes.the-variants.{Span, Refused}
@@ -60,3 +61,8 @@ firstFigure (Refused why) = 0
 abbrev pub endFigure : YearMinutes → ℕ
 endFigure (Span first end) = end
 endFigure (Refused why) = 0
+
+-- what `year_minutes` promises of its result
+abbrev pub MinutesGives : ℕ → ℕ → YearMinutes → Type 0
+MinutesGives year regimeEnd r =
+    (minutesNumber r ≡ lowest (yearRows year)) × (firstFigure r ≡ firstOf year) × (endFigure r ≡ endOf year regimeEnd)

@@ -1,9 +1,8 @@
 // The Relevant Years of the regime: document 01, "Years and the licence book".
 use refusals::Refusal;
 ghost use mathlib.Core.Path.{_≡_};
-ghost use Rattle.refusals.specs.Refusals.{lowest};
 ghost use Prim.Native.Nat.{_≤_};
-ghost use Rattle.calendar.specs.Years.{endFigure, endOf, firstFigure, firstOf, lastYear, minutesNumber, yearRows, yearStart};
+ghost use Rattle.calendar.specs.Years.{endFigure, firstFigure, lastYear, yearStart, MinutesGives};
 
 // Where a Relevant Year starts: 00:00 on 31 January 2019, then 1 January 2020 to 2043, in minutes.
 const YEAR_STARTS: [u32; 25] = [
@@ -77,9 +76,7 @@ fn year_start(year: u8) -> u32
 // The first minute of a Relevant Year, and the minute that it ends at: where the next begins, or for year 25 at the
 // regime end handed in.
 pub fn year_minutes(year: u8, regime_end: u32) -> YearMinutes
-    ensures { λ r. ⌜
-        (minutesNumber r ≡ lowest (yearRows year)) × (firstFigure r ≡ firstOf year) × (endFigure r ≡ endOf year «regime_end»)
-        ⌝ }
+    ensures { λ r. ⌜ MinutesGives year «regime_end» r ⌝ }
 {
     if year < YearMinutes::FIRST_YEAR {
         return YearMinutes::Refused(Refusal::BadYear);

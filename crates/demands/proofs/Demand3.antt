@@ -4,12 +4,12 @@
 -- its minutes. Each part is a theorem about the definitions that the contracts cite. Assumes nothing.
 use mathlib.Core.Path.{_≡_, refl, sym, ap, _∙_}
 use mathlib.Core.Bool.{Bool, true, false, cond}
-use mathlib.Core.List.{List, []}
+use mathlib.Core.List.{List}
 use Prim.Native.Nat.{ℕ, _+_, _-_, _*_, _≤_}
 use native.Mathlib.Nat.{sub-self}
 use native.Mathlib.Omega.{arith}
 use borrow.Author.Tests.{ne-eqb, leb-true}
-use lib.Dec.{eqb, leb}
+use lib.Dec.{leb}
 use Rattle.lists.specs.Lists.{sumFrom}
 use Rattle.lists.proofs.Tests.{and-left}
 use Rattle.lists.proofs.Lists.{sum-cut, sum-same}
@@ -20,9 +20,9 @@ use Rattle.outage.specs.declared.Logged.{Logged}
 use Rattle.outage.specs.declared.losing.LostEnergy.{LostEnergy}
 use Rattle.outage.specs.declared.losing.LostEnergy.the-variants.{MwMinutes}
 use Rattle.outage.specs.Log.{slots, mostMw, firstRegimeEnd, lastRegimeEnd, covers, validLog, live, holding, filed, without, lostIn, lostEnergy}
-use Rattle.outage.specs.Calls.{emptyLog, enterRows, cancelRows, lostRows, lostOf, lostFigure}
+use Rattle.outage.specs.Calls.{EnterGives, CancelGives, LostGives, emptyLog, enterRows, cancelRows, lostRows, lostOf, lostFigure}
 use Rattle.outage.proofs.Holding.{valid-says}
-use Rattle.outage.proofs.Only.{EnterGives, CancelGives, LostGives, only-lost}
+use Rattle.outage.proofs.Only.{only-lost}
 use Rattle.outage.proofs.Most.{valid-most, stretch-by-load, lost-given}
 use Rattle.calendar.specs.Years.{yearStart, yearEnd}
 use Rattle.calendar.proofs.Laws.{year-within}

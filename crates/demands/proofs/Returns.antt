@@ -17,11 +17,12 @@ use Rattle.year.specs.Year.{lineSlots}
 use Rattle.codec.specs.Numbers.{Bytes}
 use Rattle.filing.specs.declared.Return.{Return}
 use Rattle.filing.specs.Return.{Reading, whole, readingOf, isRefused, placeIn, yearIn, readRows, readYear, fileable, validYear, returnOf, writeRows}
-use Rattle.reading.specs.Steps.{ReturnGives}
+use Rattle.reading.specs.Reading.{ReturnGives}
 use Rattle.reading.proofs.Only.{only-read}
 use Rattle.writing.specs.declared.Written.{Written}
 use Rattle.writing.specs.declared.Written.the-variants.{Length}
-use Rattle.writing.proofs.Only.{WriteGives, same-written}
+use Rattle.writing.proofs.Only.{same-written}
+use Rattle.writing.specs.Written.{WriteGives}
 use Rattle.round_trip.proofs.RoundTrip.{written-read, accepted-whole, read-written}
 
 -- A year, with its 64 line slots and 400 entry slots, that was written: what was written reads back as the year.

@@ -18,17 +18,15 @@ use Rattle.calendar.specs.Years.{goodYear}
 use Rattle.outage.specs.declared.Log.{Log}
 use Rattle.outage.specs.Log.{validLog}
 use Rattle.year.specs.declared.Year.{Year}
-use Rattle.year.specs.Year.{goodYearRecord, yearRows}
-use Rattle.year.proofs.Only.{CheckGives}
+use Rattle.year.specs.Year.{goodYearRecord, yearRows, CheckGives}
 use Rattle.levels.specs.declared.Book.{Book}
 use Rattle.levels.specs.declared.measuring.Target.{Target}
 use Rattle.levels.specs.declared.measuring.Target.the-variants as target
 use Rattle.levels.specs.declared.levelling.Levels.the-variants as levels
 use Rattle.levels.specs.Book.{bookHolds, goodBook}
-use Rattle.levels.specs.Availability.{meetsTarget, availabilityRows, targetNumber, targetMet}
-use Rattle.levels.specs.Levels.{aifOf, capLevel, floorLevel, floorOf, levelFits, levelsRows}
+use Rattle.levels.specs.Availability.{meetsTarget, availabilityRows, targetNumber, targetMet, TargetGives}
+use Rattle.levels.specs.Levels.{aifOf, capLevel, floorLevel, floorOf, levelFits, levelsRows, LevelsGives}
 use Rattle.levels.proofs.Ranges.{year-says}
-use Rattle.levels.proofs.Only.{TargetGives, LevelsGives}
 
 -- a row that stops the target stops the levels, with the same number: a bad number makes a bad year
 same-stop : (b v n y t : Bool) → (y ≡ true → n ≡ true)

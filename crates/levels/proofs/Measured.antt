@@ -13,24 +13,22 @@ use Rattle.refusals.specs.Refusals.{lowest, accepted, numberOf}
 use Rattle.refusals.proofs.Laws.{all-clear, never-zero, refused-not, same-refusal}
 use Rattle.calendar.specs.declared.YearMinutes.{YearMinutes}
 use Rattle.calendar.specs.declared.YearMinutes.the-variants as minutes
-use Rattle.calendar.specs.Years.{yearStart, yearEnd, lastYear, goodYear, yearRows, firstOf, endOf, minutesNumber}
+use Rattle.calendar.specs.Years.{yearStart, yearEnd, lastYear, goodYear, yearRows, firstOf, endOf, minutesNumber, MinutesGives}
 use Rattle.calendar.proofs.Laws.{year-within}
-use Rattle.calendar.proofs.Only.{MinutesGives}
 use Rattle.outage.specs.declared.Log.{Log}
 use Rattle.outage.specs.declared.losing.LostEnergy.{LostEnergy}
 use Rattle.outage.specs.declared.losing.LostEnergy.the-variants as lost
 use Rattle.outage.specs.Log.{slots, mostMw, firstRegimeEnd, lastRegimeEnd, validLog, live, lostEnergy}
-use Rattle.outage.specs.Calls.{lostRows, lostNumber}
+use Rattle.outage.specs.Calls.{lostRows, lostNumber, LostGives}
 use Rattle.outage.proofs.Holding.{valid-says}
-use Rattle.outage.proofs.Only.{LostGives, only-lost}
+use Rattle.outage.proofs.Only.{only-lost}
 use Rattle.outage.proofs.Most.{lost-given}
 use Rattle.levels.specs.declared.Book.{Book}
 use Rattle.levels.specs.declared.measuring.Availability.the-variants as availability
 use Rattle.levels.specs.declared.measuring.Target.{Target}
 use Rattle.levels.specs.declared.measuring.Target.the-variants as target
 use Rattle.levels.specs.Book.{bookHolds, targetOf}
-use Rattle.levels.specs.Availability.{availabilityIn, meetsTarget, availabilityRows, targetNumber, targetMet}
-use Rattle.levels.proofs.Only.{AvailabilityGives, TargetGives}
+use Rattle.levels.specs.Availability.{availabilityIn, meetsTarget, availabilityRows, targetNumber, targetMet, AvailabilityGives, TargetGives}
 
 -- ---- a year in a valid log
 late : (log : Log) → validLog log ≡ true → firstRegimeEnd ≤ log .«regime_end»

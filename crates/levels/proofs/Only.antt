@@ -4,7 +4,7 @@ use mathlib.Core.Bool.{true}
 use Prim.Native.Nat.{ℕ}
 use native.Mathlib.Omega.{arith}
 use lib.IntN.{ℤ}
-use Rattle.refusals.specs.Refusals.{lowest, inTurn, standIn}
+use Rattle.refusals.specs.Refusals.{inTurn, standIn}
 use Rattle.refusals.proofs.Laws.{same-refusal, never-zero}
 use Rattle.outage.specs.declared.Log.{Log}
 use Rattle.year.specs.declared.Year.{Year}
@@ -15,15 +15,10 @@ use Rattle.levels.specs.declared.measuring.Target.{Target}
 use Rattle.levels.specs.declared.measuring.Target.the-variants as target
 use Rattle.levels.specs.declared.levelling.Levels.{Levels}
 use Rattle.levels.specs.declared.levelling.Levels.the-variants as levels
-use Rattle.levels.specs.Availability.{availabilityRows, availabilityGiven, availabilityNumber, availabilityFigure, targetGiven, targetNumber, targetMet}
-use Rattle.levels.specs.Levels.{levelsRows, capGiven, floorGiven, levelsNumber, capFigure, floorFigure}
+use Rattle.levels.specs.Availability.{availabilityRows, availabilityNumber, availabilityFigure, targetNumber, targetMet, AvailabilityGives, TargetGives}
+use Rattle.levels.specs.Levels.{levelsRows, levelsNumber, capFigure, floorFigure, LevelsGives}
 
 -- ---- availability
--- what `availability_of` ensures of its answer
-abbrev pub AvailabilityGives : Book → Log → ℕ → Availability → Type 0
-AvailabilityGives book log number r =
-    (availabilityNumber r ≡ lowest (availabilityRows book log number)) × (availabilityFigure r ≡ availabilityGiven book log number)
-
 -- the number and the figure determine the case
 same-availability : (r s : Availability) → availabilityNumber r ≡ availabilityNumber s → availabilityFigure r ≡ availabilityFigure s → r ≡ s
 same-availability (availability.MwMinutes x) (availability.MwMinutes y) n f = ap availability.MwMinutes f
@@ -38,10 +33,6 @@ pub availability-in-turn : (book : Book) (log : Log) (number : ℕ) → standIn 
 availability-in-turn book log number = refl
 
 -- ---- the target
--- what `check_target` ensures of its answer
-abbrev pub TargetGives : Book → Log → ℕ → Target → Type 0
-TargetGives book log number r = (targetNumber r ≡ lowest (availabilityRows book log number)) × (targetMet r ≡ targetGiven book log number)
-
 same-target : (r s : Target) → targetNumber r ≡ targetNumber s → targetMet r ≡ targetMet s → r ≡ s
 same-target target.Met target.Met n f = refl
 same-target target.Met target.Missed n f = let z : _≡_ {A = ℕ} 0 1 = cc in absurd (omega arith)
@@ -57,11 +48,6 @@ pub only-target : (book : Book) (log : Log) (number : ℕ) (r s : Target) → Ta
 only-target book log number r s p q = same-target r s (p .0 ∙ sym (q .0)) (p .1 ∙ sym (q .1))
 
 -- ---- the levels
--- what `levels_of` ensures of its answer
-abbrev pub LevelsGives : Book → Year → Log → Levels → Type 0
-LevelsGives book y log r =
-    (levelsNumber r ≡ lowest (levelsRows book y log)) × (capFigure r ≡ capGiven book y log) × (floorFigure r ≡ floorGiven book y log)
-
 pounds-made : {a b c d : ℤ} → a ≡ b → c ≡ d → levels.Pounds a c ≡ levels.Pounds b d
 pounds-made p q = cc
 

@@ -1,9 +1,10 @@
 -- Availability and its target: document 000, SC4 12, 16 and 18; document 01, "The log".
 use mathlib.Core.Bool.{Bool, true, false, cond, not}
 use mathlib.Core.List.{[], _∷_}
+use mathlib.Core.Path.{_≡_}
 use Prim.Native.Nat.{ℕ, _-_, _*_}
 use lib.Dec.{leb}
-use Rattle.refusals.specs.Refusals.{Rows, accepted, numberOf}
+use Rattle.refusals.specs.Refusals.{Rows, accepted, numberOf, lowest}
 use Rattle.refusals.specs.declared.Refusal.the-variants.{BadBook, BrokenLog, BadYear}
 use Rattle.calendar.specs.Years.{yearStart, yearEnd, goodYear}
 use Rattle.outage.specs.declared.Log.{Log}
@@ -40,6 +41,11 @@ abbrev pub availabilityFigure : Availability → ℕ
 availabilityFigure (availability.MwMinutes x) = x
 availabilityFigure (availability.Refused why) = 0
 
+-- what `availability_of` promises of its result
+abbrev pub AvailabilityGives : Book → Log → ℕ → Availability → Type 0
+AvailabilityGives book log number r =
+    (availabilityNumber r ≡ lowest (availabilityRows book log number)) × (availabilityFigure r ≡ availabilityGiven book log number)
+
 -- beside a refusal the target is not met
 abbrev pub targetGiven : Book → Log → ℕ → Bool
 targetGiven book log number = cond (accepted (availabilityRows book log number)) (meetsTarget book log number) false
@@ -53,3 +59,7 @@ abbrev pub targetMet : Target → Bool
 targetMet target.Met = true
 targetMet target.Missed = false
 targetMet (target.Refused why) = false
+
+-- what `check_target` promises of its result
+abbrev pub TargetGives : Book → Log → ℕ → Target → Type 0
+TargetGives book log number r = (targetNumber r ≡ lowest (availabilityRows book log number)) × (targetMet r ≡ targetGiven book log number)

@@ -1,10 +1,11 @@
 -- Cap and floor levels: document 000, SC2 4; document 01, "Levels and revenue".
 use mathlib.Core.Bool.{Bool, cond, not, _&&_, _||_}
 use mathlib.Core.List.{[], _∷_}
+use mathlib.Core.Path.{_≡_}
 use Prim.Native.Nat.{ℕ}
 use lib.Dec.{leb}
 use lib.IntN.{ℤ, pos, natAbs, _*ℤ_}
-use Rattle.refusals.specs.Refusals.{Rows, accepted, numberOf}
+use Rattle.refusals.specs.Refusals.{Rows, accepted, numberOf, lowest}
 use Rattle.refusals.specs.declared.Refusal.the-variants.{BadBook, BrokenLog, BadYear, TooLarge}
 use Rattle.money.specs.Rounding.{roundZ}
 use Rattle.outage.specs.declared.Log.{Log}
@@ -69,3 +70,8 @@ capFigure (Refused why) = pos 0
 abbrev pub floorFigure : Levels → ℤ
 floorFigure (Pounds cap floor) = floor
 floorFigure (Refused why) = pos 0
+
+-- what `levels_of` promises of its result
+abbrev pub LevelsGives : Book → Year → Log → Levels → Type 0
+LevelsGives book y log r =
+    (levelsNumber r ≡ lowest (levelsRows book y log)) × (capFigure r ≡ capGiven book y log) × (floorFigure r ≡ floorGiven book y log)

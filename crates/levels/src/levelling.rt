@@ -15,19 +15,8 @@ ghost use mathlib.Core.Path.{_≡_};
 ghost use mathlib.Core.Bool.{true};
 ghost use Prim.Native.Nat.{_≤_};
 ghost use lib.IntN.{natAbs};
-ghost use Rattle.refusals.specs.Refusals.{lowest};
 ghost use Rattle.levels.specs.Book.{capSum, floorSum, goodBook};
-ghost use Rattle.levels.specs.Levels.{
-  aifOf,
-  capFigure,
-  capGiven,
-  floorFigure,
-  floorGiven,
-  levelOf,
-  levelsNumber,
-  levelsRows,
-  timesOf,
-};
+ghost use Rattle.levels.specs.Levels.{aifOf, levelOf, timesOf, LevelsGives};
 
 // A year's cap and floor in whole pounds, or why there are none.
 pub enum Levels {
@@ -93,11 +82,7 @@ fn floor_of(book: Book, pyf: u16, pppi: u32, exceptional: bool, met: bool) -> i6
 
 // The cap and floor levels of a year, with the target tested on the running log.
 pub fn levels_of(book: Book, y: Year, log: Log) -> Levels
-    ensures { λ r. ⌜
-        (levelsNumber r ≡ lowest (levelsRows book y log))
-        × (capFigure r ≡ capGiven book y log)
-        × (floorFigure r ≡ floorGiven book y log)
-        ⌝ }
+    ensures { λ r. ⌜ LevelsGives book y log r ⌝ }
 {
     let target = check_target(book, log, y.number);
     if let Target::Refused(why) = target {

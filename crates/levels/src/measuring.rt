@@ -14,17 +14,8 @@ ghost use mathlib.Core.Bool.{_&&_};
 ghost use Prim.Native.Nat.{_≤_};
 ghost use lib.IntN.{natAbs, _+ℤ_};
 ghost use lib.Signed.{nonNeg};
-ghost use Rattle.refusals.specs.Refusals.{lowest};
 ghost use Rattle.levels.specs.Book.{bookHolds, goodBook, goodSum, small, targetOf};
-ghost use Rattle.levels.specs.Availability.{
-  availabilityFigure,
-  availabilityGiven,
-  availabilityNumber,
-  availabilityRows,
-  targetGiven,
-  targetMet,
-  targetNumber,
-};
+ghost use Rattle.levels.specs.Availability.{targetMet, AvailabilityGives, TargetGives};
 
 // MW-minutes that the cable could carry in a year, or why there is no figure.
 pub enum Availability {
@@ -110,9 +101,7 @@ fn book_holds(b: Book, regime_end: u32) -> bool
 
 // Availability of a year: rated capacity times its minutes, less its lost energy.
 pub fn availability_of(book: Book, log: Log, number: u8) -> Availability
-    ensures { λ r. ⌜
-        (availabilityNumber r ≡ lowest (availabilityRows book log number)) × (availabilityFigure r ≡ availabilityGiven book log number)
-        ⌝ }
+    ensures { λ r. ⌜ AvailabilityGives book log number r ⌝ }
 {
     if !book_holds(book, log.regime_end) {
         return Availability::Refused(Refusal::BadBook);
@@ -146,7 +135,7 @@ fn target_of(b: Book, number: u8) -> u32
 
 // Whether the availability of a year meets its target; equality does.
 pub fn check_target(book: Book, log: Log, number: u8) -> Target
-    ensures { λ r. ⌜ (targetNumber r ≡ lowest (availabilityRows book log number)) × (targetMet r ≡ targetGiven book log number) ⌝ }
+    ensures { λ r. ⌜ TargetGives book log number r ⌝ }
 {
     let available = availability_of(book, log, number);
     match available {

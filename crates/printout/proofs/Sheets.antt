@@ -21,8 +21,7 @@ use Rattle.outage.proofs.Most.{lost-given, valid-stretch}
 use Rattle.year.specs.declared.Year.{Year}
 use Rattle.year.specs.Year.{goodPppi, goodRate, goodAmount, goodFactors, goodLines, goodYearRecord}
 use Rattle.revenue.specs.declared.Revenue.the-variants.{Pounds, Refused}
-use Rattle.revenue.specs.Revenue.{assessedRevenue, revenueRows}
-use Rattle.revenue.proofs.Only.{RevenueGives}
+use Rattle.revenue.specs.Revenue.{assessedRevenue, revenueRows, RevenueGives}
 use Rattle.text.specs.declared.Text.{Text}
 use Rattle.text.specs.Text.{pushed, room, textOf}
 use Rattle.text.proofs.Laws.{digits-few, signed-few, pushed-text}

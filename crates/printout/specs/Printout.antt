@@ -1,14 +1,16 @@
 -- Document 01, "The yearly return": what the program `daysheet` prints, in ASCII.
 use mathlib.Core.Bool.{cond}
 use mathlib.Core.List.{List, [], _∷_, _++_}
-use Prim.Native.Nat.{ℕ}
+use mathlib.Core.Path.{_≡_}
+use Prim.Native.Nat.{ℕ, _≤_}
 use lib.IntN.{ℤ}
 use Rattle.refusals.specs.Refusals.{accepted, lowest}
 use Rattle.calendar.specs.Years.{yearStart, yearEnd}
 use Rattle.outage.specs.Log.{lastRegimeEnd, live, lostEnergy}
 use Rattle.year.specs.declared.Year.{Year}
 use Rattle.revenue.specs.Revenue.{assessedRevenue, revenueRows}
-use Rattle.text.specs.Text.{decimal, signedDecimal}
+use Rattle.text.specs.Text.{decimal, signedDecimal, textOf, room}
+use Rattle.text.specs.declared.Text.{Text}
 use Rattle.filing.specs.Return.{readRows, readYear}
 
 -- `year `
@@ -60,3 +62,7 @@ printedYear y =
 -- "On a refusal, of the reading or of the revenue"
 unfoldable pub printed : List ℕ → List ℕ
 printed bs = cond (accepted (readRows bs)) (printedYear (readYear bs)) (refusalOf (lowest (readRows bs)))
+
+-- what `print_return` promises of its result
+abbrev pub PrintGives : List ℕ → Text → Type 0
+PrintGives bs r = (r ≡ textOf (printed bs)) × (r .length ≤ room)

@@ -17,12 +17,11 @@ use year::Year;
 ghost use mathlib.Core.Path.{_≡_};
 ghost use mathlib.Core.Bool.{true};
 ghost use mathlib.Core.List.{[]};
-ghost use Prim.Native.Nat.{_≤_};
 ghost use Rattle.refusals.specs.Refusals.{numberOf};
 ghost use Rattle.outage.specs.Calls.{lostOf};
-ghost use Rattle.text.specs.Text.{decimal, pushed, room, signedDecimal, textOf};
+ghost use Rattle.text.specs.Text.{decimal, pushed, signedDecimal, textOf};
 ghost use Rattle.filing.specs.Return.{validYear};
-ghost use Rattle.printout.specs.Printout.{carriedWord, lineOf, lostAfter, lostInYear, lostWord, printed, printedYear, refusalOf, revenueWord, sheetOf, yearWord};
+ghost use Rattle.printout.specs.Printout.{lineOf, lostAfter, lostInYear, printedYear, refusalOf, sheetOf, PrintGives};
 
 // A line of a word and a number.
 fn with_line(t: Text, word: &[u8], n: u64) -> Text
@@ -96,7 +95,7 @@ fn print_year(y: Year) -> Text
 
 // The text that `daysheet` prints of these bytes.
 pub fn print_return(s: &[u8]) -> Text
-    ensures { λ r. ⌜ (r ≡ textOf (printed (now (s .entry)))) × (r .length ≤ room) ⌝ }
+    ensures { λ r. ⌜ PrintGives (now (s .entry)) r ⌝ }
 {
     let read = read_return(s);
     let answer = read.answer;

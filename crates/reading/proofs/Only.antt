@@ -9,7 +9,7 @@ use Rattle.refusals.proofs.Laws.{same-answer}
 use Rattle.year.specs.declared.Year.{Year}
 use Rattle.filing.specs.declared.Return.{Return}
 use Rattle.filing.specs.Return.{readRows}
-use Rattle.reading.specs.Steps.{ReturnGives}
+use Rattle.reading.specs.Reading.{ReturnGives}
 
 -- an answer, a place and a year
 return-made : {a b : Answer} {m n : ℕ} {y z : Year} → a ≡ b → m ≡ n → y ≡ z

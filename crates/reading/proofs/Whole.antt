@@ -20,7 +20,8 @@ use Rattle.filing.specs.Return.{mostBytes, yearOf, whole, refused, finish, read
 use Rattle.reading.specs.declared.Head.{Head}
 use Rattle.reading.specs.declared.Body.{Body}
 use Rattle.reading.specs.declared.Required.the-variants as R
-use Rattle.reading.specs.Steps.{HeadParts, head, headFound, HeadRead, BodyRead, ReturnGives}
+use Rattle.reading.specs.Steps.{HeadParts, head, headFound, HeadRead, BodyRead}
+use Rattle.reading.specs.Reading.{ReturnGives}
 use Rattle.codec.specs.Format.{Value, field, tagged, Res, got, stuck, Codec, malformed, one, need, pairUp, andThen, both, ReadAt}
 use Rattle.codec.proofs.Positions.{field-range, drop-more, one-some}
 

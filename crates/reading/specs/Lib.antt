@@ -1,2 +1,3 @@
--- The steps of reading a return.
+-- What reading a return gives, and its steps.
+pub mod Reading
 pub mod Steps

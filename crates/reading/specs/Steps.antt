@@ -1,6 +1,6 @@
 -- What each step of a reading finds at a place. No call is stated by it: laws turn it into the words of the return.
 use mathlib.Core.Bool.{Bool, true, cond, _&&_}
-use mathlib.Core.List.{List, []}
+use mathlib.Core.List.{List}
 use mathlib.Core.Option.{Option, some, none}
 use mathlib.Core.Path.{_≡_}
 use Prim.Native.Nat.{ℕ, _-_}
@@ -11,10 +11,8 @@ use Rattle.outage.specs.Log.{lastRegimeEnd, goodEntry, holding}
 use Rattle.year.specs.declared.Line.{Line}
 use Rattle.calendar.specs.Years.{goodYear}
 use Rattle.codec.specs.Format.{Value, such, tagged, Res, got, stuck, Codec, one, both, ReadAt}
-use Rattle.filing.specs.declared.Return.{Return}
 use Rattle.filing.specs.Form.{yearValue, pppiValue, rateValue, aicValue, entryLayout, lines, outages, body}
-use Rattle.filing.specs.Return.{padded, readRows, readPlace, readYear}
-use Rattle.refusals.specs.Refusals.{answerNumber, lowest}
+use Rattle.filing.specs.Return.{padded}
 use Rattle.reading.specs.declared.fields.LineAt.{LineAt}
 use Rattle.reading.specs.declared.fields.LineAt.the-variants as L
 use Rattle.reading.specs.declared.fields.EntryAt.{EntryAt}
@@ -89,7 +87,3 @@ pub record BodyRead (number : ℕ) (s : List ℕ) (from : ℕ) (r : Body) : Type
   pub counted : r .«line_count» ≡ length read
   pub held : r .log ≡ holding lastRegimeEnd logged
   pub at : ReadAt (body number) s from ((r .pyc, r .pyf), (read, (logged, (cond (r .exceptional) 1 0, r .within)))) (r .next)
-
--- ---- the whole: what `read_return` ensures of its result
-abbrev pub ReturnGives : List ℕ → Return → Type 0
-ReturnGives s r = (answerNumber (r .answer) ≡ lowest (readRows s)) × (r .place ≡ readPlace s) × (r .year ≡ readYear s)

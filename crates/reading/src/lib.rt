@@ -19,10 +19,10 @@ ghost use mathlib.Core.Path.{_≡_};
 ghost use mathlib.Core.Bool.{true};
 ghost use Prim.Native.Nat.{_≤_};
 ghost use lib.ListN.{length};
-ghost use Rattle.refusals.specs.Refusals.{answerNumber, lowest};
 ghost use Rattle.calendar.specs.Years.{goodYear};
-ghost use Rattle.filing.specs.Return.{mostBytes, readPlace, readRows, readYear};
-ghost use Rattle.reading.specs.Steps.{BodyRead, HeadRead, ReturnGives, head, headFound};
+ghost use Rattle.filing.specs.Return.{mostBytes};
+ghost use Rattle.reading.specs.Steps.{BodyRead, HeadRead, head, headFound};
+ghost use Rattle.reading.specs.Reading.{ReturnGives};
 
 // What follows the four required fields, and where the next field starts.
 struct Body {
@@ -156,11 +156,7 @@ fn read_on(s: &[u8], h: Head) -> Return
 // The year that all of the bytes are a return of; else 13, with the place of the first byte of the first field that cannot
 // be taken where it stands, and a fresh year.
 pub fn read_return(s: &[u8]) -> Return
-    ensures { λ r. ⌜
-        (answerNumber (r .answer) ≡ lowest (readRows (now (s .entry))))
-        × (r .place ≡ readPlace (now (s .entry)))
-        × (r .year ≡ readYear (now (s .entry)))
-        ⌝ }
+    ensures { λ r. ⌜ ReturnGives (now (s .entry)) r ⌝ }
 {
     if Return::MOST_BYTES < s.len() {
         return Return::refused(Return::MOST_BYTES);

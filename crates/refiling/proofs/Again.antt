@@ -15,9 +15,9 @@ use Rattle.codec.specs.Numbers.{Bytes}
 use Rattle.filing.specs.Return.{isRefused, readingOf, readRows, readYear, fileable, validYear, returnOf}
 use Rattle.writing.specs.declared.Written.{Written}
 use Rattle.writing.specs.declared.Written.the-variants.{Refused}
-use Rattle.writing.proofs.Only.{WriteGives}
+use Rattle.writing.specs.Written.{WriteGives}
 use Rattle.round_trip.proofs.RoundTrip.{accepted-whole, read-written}
-use Rattle.refiling.proofs.Only.{RefileGives}
+use Rattle.refiling.specs.Refiled.{RefileGives}
 
 module _ (bs out : List ℕ) where
   -- a refused reading

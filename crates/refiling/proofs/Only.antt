@@ -3,17 +3,10 @@ use mathlib.Core.Path.{_≡_, refl, sym, _∙_}
 use mathlib.Core.Bool.{true}
 use mathlib.Core.List.{List}
 use Prim.Native.Nat.{ℕ}
-use lib.ListN.{length}
-use Rattle.refusals.specs.Refusals.{lowest, inTurn, standIn}
+use Rattle.refusals.specs.Refusals.{inTurn, standIn}
 use Rattle.writing.specs.declared.Written.{Written}
-use Rattle.writing.specs.Written.{writtenNumber, lengthFigure}
 use Rattle.writing.proofs.Only.{same-written}
-use Rattle.refiling.specs.Refiled.{refileRows, refiledLength, refiledBuffer}
-
--- what `refile` ensures of its answer and of the buffer after it
-abbrev pub RefileGives : List ℕ → List ℕ → Written → List ℕ → Type 0
-RefileGives bs out r after =
-    (writtenNumber r ≡ lowest (refileRows bs (length out))) × (lengthFigure r ≡ refiledLength bs (length out)) × (after ≡ refiledBuffer bs out)
+use Rattle.refiling.specs.Refiled.{refileRows, RefileGives}
 
 pub only-refile : (bs out : List ℕ) (r s : Written) (o p : List ℕ) → RefileGives bs out r o → RefileGives bs out s p → (r ≡ s) × (o ≡ p)
 only-refile bs out r s o p g h = (same-written r s (g .0 ∙ sym (h .0)) (g .1 ∙ sym (h .1)), g .2 ∙ sym (h .2))

@@ -1,12 +1,15 @@
 -- "A return that is read and written again gives its own bytes": demand 2, as a call.
 use mathlib.Core.Bool.{cond}
 use mathlib.Core.List.{List, [], _∷_, _++_}
+use mathlib.Core.Path.{_≡_}
 use Prim.Native.Nat.{ℕ}
 use lib.Dec.{ltb}
 use lib.ListN.{length, drop}
-use Rattle.refusals.specs.Refusals.{Rows, accepted}
+use Rattle.refusals.specs.Refusals.{Rows, accepted, lowest}
 use Rattle.refusals.specs.declared.Refusal.the-variants.{Malformed, NoRoom}
 use Rattle.filing.specs.Return.{readingOf, isRefused}
+use Rattle.writing.specs.declared.Written.{Written}
+use Rattle.writing.specs.Written.{writtenNumber, lengthFigure}
 
 -- 13, the bytes are no return; 14, the buffer has no room for them
 abbrev pub refileRows : List ℕ → ℕ → Rows
@@ -18,3 +21,8 @@ refiledLength bs room = cond (accepted (refileRows bs room)) (length bs) 0
 -- the same bytes, and the rest of the buffer as it was; beside a refusal all of it
 abbrev pub refiledBuffer : List ℕ → List ℕ → List ℕ
 refiledBuffer bs out = cond (accepted (refileRows bs (length out))) (bs ++ drop (length bs) out) out
+
+-- what `refile` promises of its result, and of the buffer after it
+abbrev pub RefileGives : List ℕ → List ℕ → Written → List ℕ → Type 0
+RefileGives bs out r after =
+    (writtenNumber r ≡ lowest (refileRows bs (length out))) × (lengthFigure r ≡ refiledLength bs (length out)) × (after ≡ refiledBuffer bs out)

@@ -3,19 +3,11 @@ use reading::read_return;
 use refusals::Answer;
 use writing::Written;
 use writing::write_return;
-ghost use mathlib.Core.Path.{_≡_};
-ghost use lib.ListN.{length};
-ghost use Rattle.refusals.specs.Refusals.{lowest};
-ghost use Rattle.writing.specs.Written.{lengthFigure, writtenNumber};
-ghost use Rattle.refiling.specs.Refiled.{refileRows, refiledBuffer, refiledLength};
+ghost use Rattle.refiling.specs.Refiled.{RefileGives};
 
 // The bytes of a return at the front of the buffer, and their number; or 13 or 14, and not a byte written.
 pub fn refile(s: &[u8], out: &mut [u8]) -> Written
-    ensures { λ r. ⌜
-        (writtenNumber r ≡ lowest (refileRows (now (s .entry)) (length (now (out .entry)))))
-        × (lengthFigure r ≡ refiledLength (now (s .entry)) (length (now (out .entry))))
-        × (now (out .exit) ≡ refiledBuffer (now (s .entry)) (now (out .entry)))
-        ⌝ }
+    ensures { λ r. ⌜ RefileGives (now (s .entry)) (now (out .entry)) r (now (out .exit)) ⌝ }
 {
     let read = read_return(s);
     let answer = read.answer;

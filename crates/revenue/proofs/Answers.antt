@@ -16,8 +16,7 @@ use Rattle.calendar.specs.Years.{goodYear}
 use Rattle.year.specs.declared.Year.{Year}
 use Rattle.year.specs.Year.{goodAmount, goodFactors, goodLines, goodPppi, goodRate, goodYearRecord, yearRows}
 use Rattle.revenue.specs.declared.Revenue.the-variants.{Pounds, Refused}
-use Rattle.revenue.specs.Revenue.{assessedRevenue}
-use Rattle.revenue.proofs.Only.{RevenueGives}
+use Rattle.revenue.specs.Revenue.{assessedRevenue, RevenueGives}
 
 -- the rows, by whether the year is good and the total within its limit
 abbrev rowsOf : Bool → Bool → Rows

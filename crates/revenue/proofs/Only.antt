@@ -3,16 +3,12 @@ use mathlib.Core.Path.{_≡_, refl, sym, ap, _∙_}
 use mathlib.Core.Bool.{true}
 use native.Mathlib.Nat.{not-suc-le-zero}
 use native.Mathlib.Omega.{arith}
-use Rattle.refusals.specs.Refusals.{lowest, inTurn, standIn}
+use Rattle.refusals.specs.Refusals.{inTurn, standIn}
 use Rattle.refusals.proofs.Laws.{same-refusal, never-zero}
 use Rattle.year.specs.declared.Year.{Year}
 use Rattle.revenue.specs.declared.Revenue.{Revenue}
 use Rattle.revenue.specs.declared.Revenue.the-variants.{Pounds, Refused}
-use Rattle.revenue.specs.Revenue.{revenueRows, revenueGiven, revenueNumber, revenueFigure}
-
--- what `revenue_of` ensures of its result
-abbrev pub RevenueGives : Year → Revenue → Type 0
-RevenueGives y r = (revenueNumber r ≡ lowest (revenueRows y)) × (revenueFigure r ≡ revenueGiven y)
+use Rattle.revenue.specs.Revenue.{revenueRows, revenueNumber, revenueFigure, RevenueGives}
 
 -- the number and the figure determine the case
 pub same-revenue : (r s : Revenue) → revenueNumber r ≡ revenueNumber s → revenueFigure r ≡ revenueFigure s → r ≡ s

@@ -1,12 +1,13 @@
 -- Assessed revenue: document 000, SC5 3, 6 to 9, 11, 12 and SC7 27; document 01, "Levels and revenue".
 use mathlib.Core.Bool.{Bool, cond, not, _||_}
 use mathlib.Core.List.{List, [], _∷_}
+use mathlib.Core.Path.{_≡_}
 use Prim.Native.Nat.{ℕ}
 use lib.Dec.{leb, ltb, eqb}
 use lib.ListN.{take}
 use lib.IntN.{ℤ, pos, negℤ, natAbs, _+ℤ_, _-ℤ_, _*ℤ_}
 use lib.Signed.{ltZ}
-use Rattle.refusals.specs.Refusals.{Rows, accepted, numberOf}
+use Rattle.refusals.specs.Refusals.{Rows, accepted, numberOf, lowest}
 use Rattle.refusals.specs.declared.Refusal.the-variants.{BadYear, TooLarge}
 use Rattle.money.specs.Rounding.{roundZ}
 use Rattle.year.specs.declared.Line.{Line}
@@ -101,6 +102,10 @@ revenueNumber (Refused why) = numberOf why
 abbrev pub revenueFigure : Revenue → ℤ
 revenueFigure (Pounds z) = z
 revenueFigure (Refused why) = pos 0
+
+-- what `revenue_of` promises of its result
+abbrev pub RevenueGives : Year → Revenue → Type 0
+RevenueGives y r = (revenueNumber r ≡ lowest (revenueRows y)) × (revenueFigure r ≡ revenueGiven y)
 
 -- ---- the same line by line
 -- what a line's pounds count by its kind, in the sum of kind 2 where `cmr` holds, among the others where it does not

@@ -14,9 +14,8 @@ ghost use mathlib.Core.Bool.{true};
 ghost use Prim.Native.Nat.{_≤_};
 ghost use lib.IntN.{natAbs};
 ghost use lib.ListN.{take};
-ghost use Rattle.refusals.specs.Refusals.{lowest};
 ghost use Rattle.year.specs.Year.{goodLines, goodRate};
-ghost use Rattle.revenue.specs.Revenue.{NAR, atLeastZero, countedAs, poundsOf, revenueFigure, revenueGiven, revenueNumber, revenueRows};
+ghost use Rattle.revenue.specs.Revenue.{NAR, atLeastZero, countedAs, poundsOf, RevenueGives};
 
 // Assessed revenue in whole pounds, or why there is none.
 pub enum Revenue {
@@ -92,7 +91,7 @@ fn total(lines: [Line; Year::LINES], count: usize, rate: u32) -> i64
 // Assessed revenue of a year: each euro line converted and rounded by itself, capacity market revenue lifted to zero as
 // a sum.
 pub fn revenue_of(y: Year) -> Revenue
-    ensures { λ r. ⌜ (revenueNumber r ≡ lowest (revenueRows y)) × (revenueFigure r ≡ revenueGiven y) ⌝ }
+    ensures { λ r. ⌜ RevenueGives y r ⌝ }
 {
     let answer = check_year(y);
     if let Answer::Refused(why) = answer {

@@ -5,7 +5,7 @@ use Prim.Native.Nat.{ℕ}
 use native.Mathlib.Nat.{not-suc-le-zero}
 use native.Mathlib.Omega.{arith}
 use lib.IntN.{ℤ}
-use Rattle.refusals.specs.Refusals.{lowest, inTurn, standIn}
+use Rattle.refusals.specs.Refusals.{inTurn, standIn}
 use Rattle.refusals.proofs.Laws.{same-refusal, never-zero}
 use Rattle.settlement.specs.declared.medians.Period.{Period}
 use Rattle.settlement.specs.declared.medians.Gap.{Gap}
@@ -14,7 +14,7 @@ use Rattle.settlement.specs.declared.table.Growth.{Growth}
 use Rattle.settlement.specs.declared.table.Growth.the-variants as growth
 use Rattle.settlement.specs.declared.paying.Payment.{Payment}
 use Rattle.settlement.specs.declared.paying.Payment.the-variants as payment
-use Rattle.settlement.specs.Calls.{gapRows, gapGiven, gapNumber, gapFigure, growthRows, growthGiven, growthNumber, growthFigure, payRows, payGiven, payNumber, payFigure, settleRows, settleGiven, reconcileRows, reconcileGiven}
+use Rattle.settlement.specs.Calls.{gapRows, gapNumber, gapFigure, growthRows, growthNumber, growthFigure, payRows, payNumber, payFigure, settleRows, reconcileRows, GapGives, GrowthGives, PayGives, SettleGives, ReconcileGives}
 
 -- ---- the number and the figure determine the case
 pub same-gap : (r s : Gap) → gapNumber r ≡ gapNumber s → gapFigure r ≡ gapFigure s → r ≡ s
@@ -35,25 +35,7 @@ same-payment (payment.Pounds x) (payment.Refused why) n f = absurd (not-suc-le-z
 same-payment (payment.Refused why) (payment.Pounds y) n f = absurd (not-suc-le-zero {n = 0} (omega (arith, never-zero why)))
 same-payment (payment.Refused why) (payment.Refused other) n f = ap payment.Refused (same-refusal why other n)
 
--- ---- what each call ensures of its result
-abbrev pub GapGives : Period → Period → Gap → Type 0
-GapGives earlier later r = (gapNumber r ≡ lowest (gapRows earlier later)) × (gapFigure r ≡ gapGiven earlier later)
-
-abbrev pub GrowthGives : ℕ → Growth → Type 0
-GrowthGives n r = (growthNumber r ≡ lowest (growthRows n)) × (growthFigure r ≡ growthGiven n)
-
-abbrev pub PayGives : ℤ → ℕ → Payment → Type 0
-PayGives amount n r = (payNumber r ≡ lowest (payRows amount n)) × (payFigure r ≡ payGiven amount n)
-
-abbrev pub SettleGives : ℤ → Period → Period → Payment → Type 0
-SettleGives adjustment measured settled r =
-    (payNumber r ≡ lowest (settleRows adjustment measured settled)) × (payFigure r ≡ settleGiven adjustment measured settled)
-
-abbrev pub ReconcileGives : ℤ → ℤ → Period → Period → Payment → Type 0
-ReconcileGives final provisional settled reconciled r =
-    (payNumber r ≡ lowest (reconcileRows final provisional settled reconciled)) × (payFigure r ≡ reconcileGiven final provisional settled reconciled)
-
--- ---- and that no second result meets it
+-- ---- no second result meets what a call promises
 pub only-gap : (earlier later : Period) (r s : Gap) → GapGives earlier later r → GapGives earlier later s → r ≡ s
 only-gap earlier later r s p q = same-gap r s (p .0 ∙ sym (q .0)) (p .1 ∙ sym (q .1))
 

@@ -1,10 +1,11 @@
 -- What each call of settlement checks, in order, and what comes back.
 use mathlib.Core.Bool.{Bool, cond, not, _&&_}
 use mathlib.Core.List.{[], _∷_}
+use mathlib.Core.Path.{_≡_}
 use Prim.Native.Nat.{ℕ}
 use lib.Dec.{leb, ltb}
 use lib.IntN.{ℤ, pos, natAbs, _-ℤ_}
-use Rattle.refusals.specs.Refusals.{Rows, accepted, numberOf}
+use Rattle.refusals.specs.Refusals.{Rows, accepted, numberOf, lowest}
 use Rattle.refusals.specs.declared.Refusal.the-variants.{BadPeriod, TooLarge}
 use Rattle.settlement.specs.declared.medians.Period.{Period}
 use Rattle.settlement.specs.declared.medians.Gap.{Gap}
@@ -37,6 +38,10 @@ abbrev pub gapFigure : Gap → ℕ
 gapFigure (gap.Hundredths n) = n
 gapFigure (gap.Refused why) = 0
 
+-- what `gap_between` promises of its result
+abbrev pub GapGives : Period → Period → Gap → Type 0
+GapGives earlier later r = (gapNumber r ≡ lowest (gapRows earlier later)) × (gapFigure r ≡ gapGiven earlier later)
+
 -- ---- growth at n
 abbrev pub growthRows : ℕ → Rows
 growthRows n = (BadPeriod, not (ltb n entries)) ∷ []
@@ -51,6 +56,10 @@ growthNumber (growth.Refused why) = numberOf why
 abbrev pub growthFigure : Growth → ℕ
 growthFigure (growth.Billionths e) = e
 growthFigure (growth.Refused why) = 0
+
+-- what `growth_at` promises of its result
+abbrev pub GrowthGives : ℕ → Growth → Type 0
+GrowthGives n r = (growthNumber r ≡ lowest (growthRows n)) × (growthFigure r ≡ growthGiven n)
 
 -- ---- a payment of an amount over n hundredths of a year
 abbrev pub tooLarge : ℤ → Bool
@@ -70,6 +79,10 @@ abbrev pub payFigure : Payment → ℤ
 payFigure (payment.Pounds z) = z
 payFigure (payment.Refused why) = pos 0
 
+-- what `pay` promises of its result
+abbrev pub PayGives : ℤ → ℕ → Payment → Type 0
+PayGives amount n r = (payNumber r ≡ lowest (payRows amount n)) × (payFigure r ≡ payGiven amount n)
+
 -- ---- equation 1: an adjustment measured over one period, paid in a later one
 abbrev pub settleRows : ℤ → Period → Period → Rows
 settleRows adjustment measured settled = (BadPeriod, not (gapHolds measured settled)) ∷ (TooLarge, tooLarge adjustment) ∷ []
@@ -78,9 +91,19 @@ abbrev pub settleGiven : ℤ → Period → Period → ℤ
 settleGiven adjustment measured settled =
     cond (accepted (settleRows adjustment measured settled)) (paidOf adjustment (natAbs (hundredths (daySum measured) (daySum settled)))) (pos 0)
 
+-- what `settle` promises of its result
+abbrev pub SettleGives : ℤ → Period → Period → Payment → Type 0
+SettleGives adjustment measured settled r =
+    (payNumber r ≡ lowest (settleRows adjustment measured settled)) × (payFigure r ≡ settleGiven adjustment measured settled)
+
 -- ---- equation 2: the final payment less the provisional one, over the later gap
 abbrev pub reconcileRows : ℤ → ℤ → Period → Period → Rows
 reconcileRows final provisional settled reconciled = settleRows (final -ℤ provisional) settled reconciled
 
 abbrev pub reconcileGiven : ℤ → ℤ → Period → Period → ℤ
 reconcileGiven final provisional settled reconciled = settleGiven (final -ℤ provisional) settled reconciled
+
+-- what `reconcile` promises of its result
+abbrev pub ReconcileGives : ℤ → ℤ → Period → Period → Payment → Type 0
+ReconcileGives final provisional settled reconciled r =
+    (payNumber r ≡ lowest (reconcileRows final provisional settled reconciled)) × (payFigure r ≡ reconcileGiven final provisional settled reconciled)

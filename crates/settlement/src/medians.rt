@@ -7,7 +7,7 @@ ghost use Prim.Native.Nat.{_≤_};
 ghost use Rattle.refusals.specs.Refusals.{lowest};
 ghost use Rattle.refusals.specs.declared.Refusal.the-variants.{BadPeriod};
 ghost use Rattle.settlement.specs.Gap.{goodHundredths, goodPeriod, hundredths};
-ghost use Rattle.settlement.specs.Calls.{gapFigure, gapGiven, gapNumber, gapRows, sumsFigure};
+ghost use Rattle.settlement.specs.Calls.{gapFigure, gapNumber, sumsFigure, GapGives};
 
 // A measurement, settlement or reconciliation period: its first and last day, as spreadsheet day numbers.
 pub struct Period {
@@ -58,7 +58,7 @@ fn gap_of_sums(earlier: u64, later: u64) -> Gap
 
 // The years from the median of one period to that of a later one, to two decimals, in hundredths.
 pub fn gap_between(earlier: Period, later: Period) -> Gap
-    ensures { λ r. ⌜ (gapNumber r ≡ lowest (gapRows earlier later)) × (gapFigure r ≡ gapGiven earlier later) ⌝ }
+    ensures { λ r. ⌜ GapGives earlier later r ⌝ }
 {
     if !good_period(earlier) {
         return Gap::Refused(Refusal::BadPeriod);

@@ -14,9 +14,8 @@ use refusals::Refusal;
 ghost use mathlib.Core.Path.{_≡_};
 ghost use Prim.Native.Nat.{_<_, _≤_};
 ghost use lib.IntN.{natAbs};
-ghost use Rattle.refusals.specs.Refusals.{lowest};
 ghost use Rattle.settlement.specs.Growth.{entries, paidOf};
-ghost use Rattle.settlement.specs.Calls.{payFigure, payGiven, payNumber, payRows, reconcileGiven, reconcileRows, settleGiven, settleRows};
+ghost use Rattle.settlement.specs.Calls.{PayGives, SettleGives, ReconcileGives};
 
 // Whole pounds to pay, or why there is no payment.
 pub enum Payment {
@@ -44,7 +43,7 @@ fn grown(amount: i64, n: u32) -> i64
 
 // The payment of an amount over n hundredths of a year.
 pub fn pay(amount: i64, n: u32) -> Payment
-    ensures { λ r. ⌜ (payNumber r ≡ lowest (payRows amount n)) × (payFigure r ≡ payGiven amount n) ⌝ }
+    ensures { λ r. ⌜ PayGives amount n r ⌝ }
 {
     let small = within(amount, Payment::MOST_AMOUNT);
     if Growth::MOST_HUNDREDTHS < n {
@@ -58,9 +57,7 @@ pub fn pay(amount: i64, n: u32) -> Payment
 
 // Equation 1: an adjustment measured over one period, paid in a later one.
 pub fn settle(adjustment: i64, measured: Period, settled: Period) -> Payment
-    ensures { λ r. ⌜
-        (payNumber r ≡ lowest (settleRows adjustment measured settled)) × (payFigure r ≡ settleGiven adjustment measured settled)
-        ⌝ }
+    ensures { λ r. ⌜ SettleGives adjustment measured settled r ⌝ }
 {
     let apart = gap_between(measured, settled);
     match apart {
@@ -71,10 +68,7 @@ pub fn settle(adjustment: i64, measured: Period, settled: Period) -> Payment
 
 // Equation 2: the final payment less the provisional one, settled in a period after the settlement period.
 pub fn reconcile(last: i64, provisional: i64, settled: Period, reconciled: Period) -> Payment
-    ensures { λ r. ⌜
-        (payNumber r ≡ lowest (reconcileRows last provisional settled reconciled))
-        × (payFigure r ≡ reconcileGiven last provisional settled reconciled)
-        ⌝ }
+    ensures { λ r. ⌜ ReconcileGives last provisional settled reconciled r ⌝ }
 {
     settle(minus(last, provisional), settled, reconciled)
 }

@@ -2,9 +2,8 @@
 use refusals::Refusal;
 ghost use mathlib.Core.Path.{_≡_};
 ghost use Prim.Native.Nat.{_<_};
-ghost use Rattle.refusals.specs.Refusals.{lowest};
 ghost use Rattle.settlement.specs.Growth.{entries, growthOf};
-ghost use Rattle.settlement.specs.Calls.{growthFigure, growthGiven, growthNumber, growthRows};
+ghost use Rattle.settlement.specs.Calls.{GrowthGives};
 
 // Entry n is 10^9 x 1.0388^(n/100), rounded down.
 const ENTRIES: [u64; 500] = [
@@ -531,7 +530,7 @@ pub(crate) fn entry(n: u32) -> u64
 
 // By how much money grows in n hundredths of a year.
 pub fn growth_at(n: u32) -> Growth
-    ensures { λ r. ⌜ (growthNumber r ≡ lowest (growthRows n)) × (growthFigure r ≡ growthGiven n) ⌝ }
+    ensures { λ r. ⌜ GrowthGives n r ⌝ }
 {
     if Growth::MOST_HUNDREDTHS < n {
         return Growth::Refused(Refusal::BadPeriod);

@@ -5,19 +5,13 @@ use mathlib.Core.List.{List}
 use Prim.Native.Nat.{ℕ}
 use native.Mathlib.Nat.{not-suc-le-zero}
 use native.Mathlib.Omega.{arith}
-use lib.ListN.{length}
-use Rattle.refusals.specs.Refusals.{lowest, inTurn, standIn}
+use Rattle.refusals.specs.Refusals.{inTurn, standIn}
 use Rattle.refusals.proofs.Laws.{same-refusal, never-zero}
 use Rattle.year.specs.declared.Year.{Year}
-use Rattle.filing.specs.Return.{writeRows, writtenBuffer, writtenLength}
+use Rattle.filing.specs.Return.{writeRows}
 use Rattle.writing.specs.declared.Written.{Written}
 use Rattle.writing.specs.declared.Written.the-variants.{Length, Refused}
-use Rattle.writing.specs.Written.{lengthFigure, writtenNumber}
-
--- what `write_return` ensures of its result, and of the buffer afterwards
-abbrev pub WriteGives : Year → List ℕ → Written → List ℕ → Type 0
-WriteGives y out r o =
-    (writtenNumber r ≡ lowest (writeRows y (length out))) × (lengthFigure r ≡ writtenLength y (length out)) × (o ≡ writtenBuffer y out)
+use Rattle.writing.specs.Written.{lengthFigure, writtenNumber, WriteGives}
 
 -- the number and the length determine the case
 pub same-written : (r s : Written) → writtenNumber r ≡ writtenNumber s → lengthFigure r ≡ lengthFigure s → r ≡ s

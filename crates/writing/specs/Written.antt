@@ -1,12 +1,13 @@
 -- The number and the length of each case of the answer: document 01, "Numbers a call can give instead".
 use mathlib.Core.Bool.{Bool, cond, not, _&&_}
 use mathlib.Core.List.{List, [], _∷_, _++_}
+use mathlib.Core.Path.{_≡_}
 use Prim.Native.Nat.{ℕ, _+_}
 use lib.Dec.{leb, ltb, eqb}
 use lib.IntN.{ℤ}
 use lib.ListN.{length}
 use Rattle.lists.specs.Lists.{all}
-use Rattle.refusals.specs.Refusals.{Rows, numberOf}
+use Rattle.refusals.specs.Refusals.{Rows, numberOf, lowest}
 use Rattle.refusals.specs.declared.Refusal.the-variants.{BrokenLog, BadYear}
 use Rattle.outage.specs.declared.Entry.{Entry}
 use Rattle.outage.specs.declared.Log.{Log}
@@ -15,7 +16,7 @@ use Rattle.year.specs.declared.Line.{Line}
 use Rattle.year.specs.declared.Year.{Year}
 use Rattle.codec.specs.Format.{Item, fieldOf, tagged}
 use Rattle.filing.specs.Form.{yearValue, pppiValue, rateValue, aicValue, entryLayout, factors, mark, within, startsIn}
-use Rattle.filing.specs.Return.{fileable}
+use Rattle.filing.specs.Return.{fileable, writeRows, writtenLength, writtenBuffer}
 use Rattle.writing.specs.declared.Written.{Written}
 use Rattle.writing.specs.declared.Written.the-variants.{Length, Refused}
 
@@ -26,6 +27,11 @@ writtenNumber (Refused why) = numberOf why
 abbrev pub lengthFigure : Written → ℕ
 lengthFigure (Length n) = n
 lengthFigure (Refused why) = 0
+
+-- what `write_return` promises of its result, and of the buffer after it
+abbrev pub WriteGives : Year → List ℕ → Written → List ℕ → Type 0
+WriteGives y out r o =
+    (writtenNumber r ≡ lowest (writeRows y (length out))) × (lengthFigure r ≡ writtenLength y (length out)) × (o ≡ writtenBuffer y out)
 
 -- whether the year may be written, room or not
 abbrev pub filingRows : Year → Rows

@@ -19,10 +19,9 @@ ghost use mathlib.Core.Path.{_≡_};
 ghost use mathlib.Core.Bool.{true};
 ghost use Prim.Native.Nat.{_≤_};
 ghost use lib.ListN.{length};
-ghost use Rattle.refusals.specs.Refusals.{lowest};
 ghost use Rattle.codec.specs.Buffers.{Wrote};
-ghost use Rattle.filing.specs.Return.{returnOf, validYear, writeRows, writtenBuffer, writtenLength};
-ghost use Rattle.writing.specs.Written.{lengthFigure, requiredOf, writtenNumber};
+ghost use Rattle.filing.specs.Return.{returnOf, validYear};
+ghost use Rattle.writing.specs.Written.{requiredOf, WriteGives};
 
 // How many bytes were written, or why none.
 pub enum Written {
@@ -58,11 +57,7 @@ fn put_year(y: Year, out: &mut [u8]) -> usize
 
 // The return of a year, at the front of the buffer, and its length; or 1, 9 or 14, and not a byte written.
 pub fn write_return(y: Year, out: &mut [u8]) -> Written
-    ensures { λ r. ⌜
-        (writtenNumber r ≡ lowest (writeRows y (length (now (out .entry)))))
-        × (lengthFigure r ≡ writtenLength y (length (now (out .entry))))
-        × (now (out .exit) ≡ writtenBuffer y (now (out .entry)))
-        ⌝ }
+    ensures { λ r. ⌜ WriteGives y (now (out .entry)) r (now (out .exit)) ⌝ }
 {
     let answer = check_filing(y);
     if let Answer::Refused(why) = answer {

@@ -2,14 +2,10 @@
 use mathlib.Core.Path.{_≡_, refl, sym, _∙_}
 use mathlib.Core.Bool.{true}
 use Rattle.refusals.specs.declared.Answer.{Answer}
-use Rattle.refusals.specs.Refusals.{lowest, answerNumber, inTurn, standIn}
+use Rattle.refusals.specs.Refusals.{inTurn, standIn}
 use Rattle.refusals.proofs.Laws.{same-answer}
 use Rattle.year.specs.declared.Year.{Year}
-use Rattle.year.specs.Year.{yearRows}
-
--- what `check_year` ensures of its answer
-abbrev pub CheckGives : Year → Answer → Type 0
-CheckGives y r = answerNumber r ≡ lowest (yearRows y)
+use Rattle.year.specs.Year.{yearRows, CheckGives}
 
 pub only-check : (y : Year) (r s : Answer) → CheckGives y r → CheckGives y s → r ≡ s
 only-check y r s p q = same-answer r s (p ∙ sym q)

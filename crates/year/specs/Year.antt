@@ -1,14 +1,16 @@
 -- Document 01, "Years and the licence book" (the fresh year) and "Levels and revenue" (ranges and lines).
-use mathlib.Core.Bool.{Bool, true, false, cond, not, _&&_, _||_}
+use mathlib.Core.Bool.{Bool, false, not, _&&_, _||_}
 use mathlib.Core.List.{List, [], _∷_}
-use Prim.Native.Nat.{ℕ, zero, suc}
-use lib.Dec.{leb, ltb, eqb}
-use lib.ListN.{getD, take, drop, replicate}
+use mathlib.Core.Path.{_≡_}
+use Prim.Native.Nat.{ℕ}
+use lib.Dec.{leb, eqb}
+use lib.ListN.{take, drop, replicate}
 use lib.IntN.{ℤ, pos, natAbs}
 use lib.Signed.{nonNeg}
 use Rattle.lists.specs.Lists.{all}
-use Rattle.refusals.specs.Refusals.{Rows}
+use Rattle.refusals.specs.Refusals.{Rows, lowest, answerNumber}
 use Rattle.refusals.specs.declared.Refusal.the-variants.{BadYear}
+use Rattle.refusals.specs.declared.Answer.{Answer}
 use Rattle.calendar.specs.Years.{goodYear}
 use Rattle.outage.specs.Log.{holding, lastRegimeEnd}
 use Rattle.year.specs.declared.Line.{Line}
@@ -77,3 +79,7 @@ goodYearRecord y =
 
 abbrev pub yearRows : Year → Rows
 yearRows y = (BadYear, not (goodYearRecord y)) ∷ []
+
+-- what `check_year` promises of its result
+abbrev pub CheckGives : Year → Answer → Type 0
+CheckGives y r = answerNumber r ≡ lowest (yearRows y)

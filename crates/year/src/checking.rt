@@ -13,8 +13,7 @@ ghost use Prim.Native.Nat.{_≤_};
 ghost use lib.Dec.{ltb};
 ghost use lib.ListN.{drop, take};
 ghost use Rattle.lists.specs.Lists.{all};
-ghost use Rattle.refusals.specs.Refusals.{answerNumber, lowest};
-ghost use Rattle.year.specs.Year.{goodFactors, goodLine, goodLines, isZeroLine, lineSlots, yearRows};
+ghost use Rattle.year.specs.Year.{goodFactors, goodLine, goodLines, isZeroLine, lineSlots, CheckGives};
 
 // A line's kind, currency and amount are in range.
 pub fn good_line(l: Line) -> bool
@@ -126,7 +125,7 @@ fn good_factors(number: u8, pppi: u32, rate: u32, aic: u16, pyc: u16, pyf: u16) 
 
 // Whether the year is in range. Its log is neither used nor checked.
 pub fn check_year(y: Year) -> Answer
-    ensures { λ r. ⌜ answerNumber r ≡ lowest (yearRows y) ⌝ }
+    ensures { λ r. ⌜ CheckGives y r ⌝ }
 {
     if !good_factors(y.number, y.pppi, y.rate, y.aic, y.pyc, y.pyf) {
         return Answer::Refused(Refusal::BadYear);

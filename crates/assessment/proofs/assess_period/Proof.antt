@@ -1,6 +1,5 @@
 use mathlib.Core.Path.{_≡_, sym, ap, subst, _∙_}
 use mathlib.Core.Bool.{Bool, true, cond}
-use native.Mathlib.Omega.{arith}
 use borrow.Author.Tests.{not-true, not-false}
 use lib.ListN.{length}
 use Rattle.lists.specs.Lists.{all}
@@ -8,7 +7,6 @@ use Rattle.lists.proofs.Tests.{held}
 use Rattle.balances.specs.declared.assessing.Yearly.{Yearly}
 use Rattle.outage.specs.Log.{validLog}
 use Rattle.levels.specs.Book.{bookHolds}
-use Rattle.balances.proofs.Only.{AssessGives}
 use Rattle.assessment.specs.Period.{noAmounts, yearFits, yearlyOf, yearsGood}
 use Rattle.assessment.proofs.Period.{book-told, gives-assessed, gives-bad-years, gives-no-availability, gives-too-large, good-records, log-told}
 use borrow.Author.Needs.{needs}
@@ -19,6 +17,7 @@ use Rattle.assessment.proofs.assess_period.Lts as lts
 use Rattle.assessment.proofs.amounts_of.Reads as amounts-of-reads
 use Rattle.assessment.proofs.good_years.Reads as good-years-reads
 use Rattle.balances.proofs.assess.Reads as assess-reads
+use Rattle.balances.specs.Assessment.{AssessGives}
 use Rattle.levels.proofs.availability_of.Reads as availability-of-reads
 
 availability-of-requires : tie.Need-availability-of-requires

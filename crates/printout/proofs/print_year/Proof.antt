@@ -1,11 +1,9 @@
-use mathlib.Core.Path.{_≡_, _∙_, ap, subst}
-use mathlib.Core.List.{[], List}
-use Prim.Native.Nat.{ℕ}
+use mathlib.Core.Path.{_∙_, ap, subst}
+use mathlib.Core.List.{[]}
 use native.Mathlib.Omega.{arith}
 use lib.IntN.{ℤ}
 use Rattle.money.proofs.Pounds.{sfits, wire}
 use Rattle.text.specs.Text.{pushed, textOf}
-use Rattle.revenue.proofs.Only.{RevenueGives}
 use Rattle.printout.specs.Printout.{lostInYear, lostAfter, sheetOf}
 use Rattle.printout.proofs.Sheets.{assessed, sheet-printed, refusal-printed}
 use borrow.Author.Needs.{needs}
@@ -16,6 +14,7 @@ use Rattle.printout.proofs.print_year.Lts as lts
 use Rattle.printout.proofs.refusal.Reads as refusal-reads
 use Rattle.printout.proofs.sheet.Reads as sheet-reads
 use Rattle.revenue.proofs.revenue_of.Reads as revenue-of-reads
+use Rattle.revenue.specs.Revenue.{RevenueGives}
 
 -- src/lib.rt:90:11
 revenue-of-requires : tie.Need-revenue-of-requires

@@ -11,7 +11,7 @@ use Rattle.refusals.specs.declared.Refusal.the-variants.{NoRoom}
 use Rattle.refusals.specs.Refusals.{answerNumber}
 use Rattle.filing.specs.Return.{returnOf, validYear}
 use Rattle.writing.specs.declared.Written.the-variants.{Refused}
-use Rattle.writing.proofs.Only.{WriteGives}
+use Rattle.writing.specs.Written.{WriteGives}
 use Rattle.writing.proofs.Filing.{filing-valid, gives-refused, gives-no-room, gives-length}
 use Rattle.writing.proofs.Sizes.{few-lines, few-outages, year-size}
 use Rattle.writing.proofs.write_return.Statement.{statement}

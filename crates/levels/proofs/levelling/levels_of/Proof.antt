@@ -9,9 +9,8 @@ use Rattle.money.proofs.Pounds.{wire}
 use Rattle.year.specs.Year.{goodYearRecord}
 use Rattle.levels.specs.declared.measuring.Target.{Target}
 use Rattle.levels.specs.declared.measuring.Target.the-variants.{Met, Missed, Refused}
-use Rattle.levels.specs.Availability.{targetNumber, targetMet}
+use Rattle.levels.specs.Availability.{targetNumber, targetMet, TargetGives}
 use Rattle.levels.specs.Levels.{aifOf, capLevel, floorLevel, levelFits}
-use Rattle.levels.proofs.Only.{TargetGives}
 use Rattle.levels.proofs.Ranges.{year-says}
 use Rattle.levels.proofs.Levelled.{gives-no-target, gives-no-year, good, year-good, gives-large-cap, gives-large-floor, gives-levels}
 use Rattle.levels.proofs.measuring.Target.{the-type}

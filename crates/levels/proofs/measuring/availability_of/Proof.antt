@@ -6,11 +6,11 @@ use borrow.Author.Tests.{not-true, not-false}
 use Rattle.refusals.specs.declared.Refusal.{Refusal}
 use Rattle.calendar.specs.Years.{firstOf, endOf}
 use Rattle.outage.specs.Log.{validLog, live, lostEnergy}
-use Rattle.outage.proofs.Only.{LostGives}
 use Rattle.outage.proofs.Most.{valid-stretch}
+use Rattle.outage.specs.Calls.{LostGives}
 use Rattle.levels.specs.declared.measuring.Availability.the-variants.{Refused}
 use Rattle.levels.specs.Book.{bookHolds}
-use Rattle.levels.proofs.Only.{AvailabilityGives}
+use Rattle.levels.specs.Availability.{AvailabilityGives}
 use Rattle.levels.proofs.Measured.{asked-fits, span-good, minutes-bad, lost-refused, lost-valid, lost-figure, availability-is, gives-bad-book, gives-broken, gives-bad-year, gives-figure}
 use Rattle.levels.proofs.measuring.availability_of.Statement.{statement}
 use Rattle.levels.proofs.measuring.availability_of.Tie as tie

@@ -6,7 +6,7 @@ use borrow.Author.Tests.{le-leb, lt-leb}
 use Rattle.levels.specs.declared.measuring.Availability.the-variants.{MwMinutes}
 use Rattle.levels.specs.declared.measuring.Target.the-variants as target
 use Rattle.levels.specs.Book.{targetOf}
-use Rattle.levels.proofs.Only.{AvailabilityGives}
+use Rattle.levels.specs.Availability.{AvailabilityGives}
 use Rattle.levels.proofs.Measured.{target-refused, target-told}
 use Rattle.levels.proofs.measuring.check_target.Statement.{statement}
 use Rattle.levels.proofs.measuring.check_target.Tie as tie
