@@ -33,7 +33,7 @@ use Rattle.revenue.specs.Revenue.{assessedRevenue}
 use Rattle.balances.specs.declared.assessing.Assessment.{Assessment}
 use Rattle.balances.specs.declared.assessing.Assessment.the-variants.{Refused}
 use Rattle.balances.specs.Balance.{goodIndex, goodAmount, goodAmounts}
-use Rattle.balances.specs.Assessment.{ARN, CLN, FLN, WPAN, assessRows, balancesWithin, figuresOf, goodYearly, noFigures, notNegative, AssessGives}
+use Rattle.balances.specs.Assessment.{ARN, CLN, FLN, WPAN, assessRows, balancesWithin, figuresOf, goodYearly, noFigures, notNegative, assessNumber, AssessGives}
 use Rattle.assessment.specs.Period.{periodRows, yearFits, yearlyOf, yearsGood, onePeriod, PeriodGives}
 use Rattle.assessment.proofs.Years.{noYear, map-at}
 
@@ -180,3 +180,21 @@ module _ (book : Book) (years : List Year) (log : Log) where
 pub good-records : (years : List Year) → yearsGood years ≡ true → all goodYearRecord years ≡ true
 unfolding yearsGood
 good-records years g = and-left (all goodYearRecord years) (onePeriod years) g
+
+-- a period that is not refused is assessed as its yearly amounts are
+pub period-assessed : (book : Book) (years : List Year) (log : Log) (r : Assessment) → length years ≡ 5 → PeriodGives book years log r → assessNumber r ≡ 0
+    → AssessGives (yearlyOf book years log) r
+period-assessed book years log r len g n =
+    let y = yearlyOf book years log in
+    let figures = figuresOf (ARN y 5) (CLN y 5) (FLN y 5) (WPAN y 5) in
+    let none : lowest (periodRows book years log) ≡ 0 = sym (g .0) ∙ n in
+    let clear = all-clear (periodRows book years log) none in
+    let b : bookHolds book (log .«regime_end») ≡ true = not-no (bookHolds book (log .«regime_end»)) (clear .0) in
+    let f : (all (yearFits book log) years && balancesWithin y 5) ≡ true = not-no (all (yearFits book log) years && balancesWithin y 5) (clear .1 .1 .1 .0) in
+    let range : goodYearly y 5 ≡ true =
+    amounts-in-range book years log len (and-left (goodBook book) (eqb (book .«regime_end») (log .«regime_end»)) b)
+    (good-records years (not-no (yearsGood years) (clear .1 .1 .0))) (and-left (all (yearFits book log) years) (balancesWithin y 5) f) in
+    let zero-too : lowest (assessRows y) ≡ 0 = simp (range, and-right (all (yearFits book log) years) (balancesWithin y 5) f, clear .1 .1 .1 .1 .0) in (
+      n ∙ sym zero-too,
+      g .1 ∙ ap (λ (k : ℕ). cond (eqb k 0) figures noFigures) (none ∙ sym zero-too),
+    )

@@ -4,4 +4,4 @@ pub mod Years
 pub mod Answers
 pub mod Only
 pub mod Licence
-pub mod Figures
+pub mod NetPresent

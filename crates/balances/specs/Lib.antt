@@ -1,3 +1,4 @@
--- Balances over the years, and the assessment.
+-- Balances over the years, the assessment, and the net present values that the balances stand for.
 pub mod Balance
 pub mod Assessment
+pub mod NetPresent

@@ -1,20 +1,36 @@
--- What `year_minutes` ensures leaves one answer. Assumes nothing.
-use mathlib.Core.Path.{_≡_, refl, ap}
+-- `year_minutes` answers and no second answer fits, and its rows stand in the order of refusals. Assumes nothing.
+use mathlib.Core.Path.{_≡_, refl, sym, _∙_}
+use mathlib.Core.Logic.{_⊎_, inl, inr}
 use mathlib.Core.Bool.{true}
 use Prim.Native.Nat.{ℕ}
-use native.Mathlib.Omega.{arith}
 use Rattle.refusals.specs.Refusals.{inTurn, standIn}
-use Rattle.refusals.proofs.Laws.{same-refusal, never-zero}
-use Rattle.calendar.specs.Years.{yearRows, MinutesGives}
+use Rattle.refusals.specs.Answers.{One}
+use Rattle.refusals.proofs.Cases.{Refusing, Answers, same-two, one-two}
+use Rattle.calendar.specs.Years.{yearStart, yearEnd, firstFigure, minutesNumber, endFigure, yearRows, MinutesGives}
 use Rattle.calendar.specs.declared.YearMinutes.{YearMinutes}
 use Rattle.calendar.specs.declared.YearMinutes.the-variants.{Span, Refused}
 
--- no second answer fits
+abbrev spanOf : ℕ × ℕ → YearMinutes
+spanOf p = Span (p .0) (p .1)
+
+minutes-cases : (r : YearMinutes) → (r ≡ spanOf (firstFigure r, endFigure r)) ⊎ Refusing Refused r
+minutes-cases (Span first end) = inl refl
+minutes-cases (Refused why) = inr (record { why = why; is = refl })
+
+pub minutes-answers : Answers minutesNumber (λ (r : YearMinutes). (firstFigure r, endFigure r)) (0, 0) spanOf Refused
+minutes-answers = record {
+  number-found = λ p. refl;
+  number-refused = λ why. refl;
+  figures-found = λ p. refl;
+  figures-refused = λ why. refl;
+  cases = minutes-cases;
+}
+
 pub only-minutes : (year regimeEnd : ℕ) (r s : YearMinutes) → MinutesGives year regimeEnd r → MinutesGives year regimeEnd s → r ≡ s
-only-minutes year regimeEnd (Span a b) (Span c d) m n = cc
-only-minutes year regimeEnd (Span a b) (Refused why) m n = absurd (omega (arith, never-zero why))
-only-minutes year regimeEnd (Refused why) (Span c d) m n = absurd (omega (arith, never-zero why))
-only-minutes year regimeEnd (Refused why) (Refused other) m n = ap Refused (same-refusal why other (cc))
+only-minutes year regimeEnd r s p q = same-two minutes-answers r s (p .0 ∙ sym (q .0)) (p .1 ∙ sym (q .1)) (p .2 ∙ sym (q .2))
+
+pub one-minutes : (year regimeEnd : ℕ) → One (MinutesGives year regimeEnd)
+one-minutes year regimeEnd = one-two minutes-answers (yearRows year) (yearStart year) (yearEnd year regimeEnd)
 
 -- the rows stand in the order of the refusals
 pub in-turn : (year : ℕ) → standIn inTurn (yearRows year) ≡ true

@@ -3,6 +3,7 @@ pub mod Numbers
 pub mod Complement
 pub mod Values
 pub mod Items
+pub mod Fields
 pub mod Formats
 pub mod Places
 pub mod Positions

@@ -1,87 +1,207 @@
--- The figures that document 01 marks P, all under one theorem. Assumes nothing.
-use mathlib.Core.Path.{_≡_, ap}
-use mathlib.Core.Bool.{true, false}
-use mathlib.Core.List.{List, [], _∷_}
-use Prim.Native.Nat.{ℕ, _+_}
-use lib.IntN.{ℤ, pos, negℤ}
+-- The marked figures, all under one theorem: each by a result that meets what the call promises. Assumes nothing.
+use mathlib.Core.Path.{_≡_, refl, sym, ap, _∙_}
+use mathlib.Core.Bool.{Bool, true, false, cond, not, _&&_}
+use mathlib.Core.List.{[], _∷_, List}
+use Prim.Native.Nat.{ℕ, _+_, _-_, _*_, suc, _/_}
+use native.Mathlib.Omega.{arith}
+use lib.Dec.{leb, eqb, leb·zero, lit≤}
+use lib.IntN.{ℤ, pos, negsuc, negℤ}
 use lib.ListN.{getD}
 use Rattle.refusals.specs.Refusals.{lowest}
-use Rattle.levels.specs.Book.{publishedBook}
-use Rattle.levels.specs.Availability.{meetsTarget, availabilityRows}
-use Rattle.levels.specs.Levels.{levelOf}
-use Rattle.levels.proofs.Figures.{outFor}
-use Rattle.levels.proofs.Figures as levels
-use Rattle.balances.specs.Balance.{carryOf}
-use Rattle.balances.specs.Assessment.{assessGiven}
-use Rattle.balances.proofs.Figures.{fiveYears}
-use Rattle.balances.proofs.Figures as balances
-use Rattle.settlement.specs.Gap.{daySum, hundredths, goodHundredths}
-use Rattle.settlement.specs.Growth.{growthOf, paidOf}
-use Rattle.settlement.proofs.Figures as settlement
+use Rattle.refusals.specs.declared.Refusal.the-variants.{BadBook, BrokenLog, BadYear, TooLarge, BadPeriod}
+use Rattle.money.specs.Rounding.{upOf, roundDiv, onMagnitude, roundZ}
+use Rattle.calendar.specs.Years.{daysTo, yearStart, yearEnd}
+use Rattle.outage.specs.declared.Log.{Log}
+use Rattle.outage.specs.Log.{validRow, validLog, lastRegimeEnd, live, mostMw}
+use Rattle.outage.proofs.Minutes.{by-minutes, energyOf}
+use Rattle.year.specs.Year.{goodYearRecord}
+use Rattle.levels.specs.Book.{publishedBook, goodBook, bookHolds, targetOf}
+use Rattle.levels.specs.Availability.{availabilityIn, meetsTarget, availabilityRows, targetGiven, TargetGives}
+use Rattle.levels.specs.Levels.{timesOf, levelOf, capLevel, floorLevel, floorOf, levelFits, levelsRows, LevelsGives}
+use Rattle.levels.proofs.Only.{only-target, only-levels}
+use Rattle.levels.specs.declared.measuring.Target.the-variants as target
+use Rattle.levels.specs.declared.levelling.Levels.the-variants as levels
+use Rattle.balances.specs.Balance.{carryOf, balanceAfter, laterWithin, goodAmounts}
+use Rattle.balances.specs.Assessment.{notNegative, heldBetween, assessRows, assessGiven, AssessGives}
+use Rattle.balances.specs.declared.assessing.Figures.{Figures}
+use Rattle.balances.specs.declared.assessing.Assessment.{Assessment}
+use Rattle.settlement.specs.declared.medians.Period.{Period}
+use Rattle.settlement.specs.Gap.{goodPeriod, daySum, hundredths}
+use Rattle.settlement.specs.Growth.{growsTo, growthOf, paidOf}
+use Rattle.settlement.specs.Calls.{GapGives, GrowthGives, PayGives}
+use Rattle.settlement.proofs.Gaps.{gap-is}
+use Rattle.settlement.proofs.Growing.{growth-is}
+use Rattle.settlement.proofs.Only.{only-gap, only-growth, only-pay}
+use Rattle.settlement.specs.declared.medians.Gap.the-variants as gap
+use Rattle.settlement.specs.declared.table.Growth.the-variants as growth
+use Rattle.settlement.specs.declared.paying.Payment.the-variants as payment
+use Rattle.demands.specs.Figures.{outFor, noOutage, markedYear, fiveYears, FiveFigures, MarkedFigures}
 
-pub record MarkedFigures : Type 0 where
-  -- "2021 with 104,832 minutes lost at 1,000 MW meets the target": year 3, lost from minute 1,009,440 on, and not refused
-  pub met : (lowest (availabilityRows publishedBook (outFor 1009440 104832) 3) ≡ 0) × (meetsTarget publishedBook (outFor 1009440 104832) 3 ≡ true)
-  -- "104,833 misses"
-  pub missed : (lowest (availabilityRows publishedBook (outFor 1009440 104833) 3) ≡ 0) × (meetsTarget publishedBook (outFor 1009440 104833) 3 ≡ false)
-  -- "2020 meets at 106,272": year 2, lost from minute 482,400 on
-  pub leap : (lowest (availabilityRows publishedBook (outFor 482400 106272) 2) ≡ 0) × (meetsTarget publishedBook (outFor 482400 106272) 2 ≡ true)
-  -- "cap 83,806,402, AIC 10,200, PPPI 11,000, whole year: 94,030,783"
-  pub cap : levelOf 10000 (pos 83806402) 10200 11000 ≡ pos 94030783
-  -- "floor 48,807,317, AIF 10,000: 53,688,049"
-  pub floor : levelOf 10000 (pos 48807317) 10000 11000 ≡ pos 53688049
-  -- "carry of 1,250 at equal index is 1,299"
-  pub carry : carryOf (pos 1250) 10000 10000 ≡ pos 1299
-  -- "of -1,250 is -1,299"
-  pub carry-back : carryOf (negℤ (pos 1250)) 10000 10000 ≡ negℤ (pos 1299)
-  -- "50,000,000 from index 10,000 to 10,200 is 52,978,800"
-  pub carry-index : carryOf (pos 50000000) 10000 10200 ≡ pos 52978800
-  -- "five years at index 10,000, revenue 1,000,000, cap 900,000, floor 500,000 each, W of -100,000 in year 2": "A 5,403,349"
-  pub five-revenue : assessGiven fiveYears .revenue ≡ pos 5403349
-  -- "C 4,863,014"
-  pub five-cap : assessGiven fiveYears .cap ≡ pos 4863014
-  -- "W -112,098"
-  pub five-within : assessGiven fiveYears .within ≡ negℤ (pos 112098)
-  -- "adjustment -428,237"
-  pub five-adjustment : assessGiven fiveYears .adjustment ≡ negℤ (pos 428237)
-  -- "growth entries 0, 100, 200, 300: 1,000,000,000; 1,038,800,000; 1,079,105,440; 1,120,974,731"
-  pub growth-0 : growthOf 0 ≡ 1000000000
-  pub growth-100 : growthOf 100 ≡ 1038800000
-  pub growth-200 : growthOf 200 ≡ 1079105440
-  pub growth-300 : growthOf 300 ≡ 1120974731
-  -- "days 44,927 to 45,291 against 45,383 to 45,747: n = 125"
-  pub gap : hundredths (daySum (record { first = 44927; last = 45291 })) (daySum (record { first = 45383; last = 45747 })) ≡ pos 125
-  -- "g 3,648 gives 499"
-  pub gap-most : (sum : ℕ) → hundredths sum (sum + 3648) ≡ pos 499
-  -- "3,649 is refused"
-  pub gap-past : (sum : ℕ) → goodHundredths (hundredths sum (sum + 3649)) ≡ false
-  -- "-10,000,001 at n = 100 pays -10,388,001"
-  pub pays-back : paidOf (negℤ (pos 10000001)) 100 ≡ negℤ (pos 10388001)
+-- ---- levels
+-- the published book asks for nothing in year one, so the target is met
+asks-nothing : meetsTarget publishedBook noOutage 1 ≡ true
+asks-nothing = leb·zero (availabilityIn noOutage 1)
 
+floor-met : floorOf publishedBook markedYear noOutage ≡ floorLevel publishedBook markedYear 10000
+floor-met = rw asks-nothing refl
+
+cap-figure : capLevel publishedBook markedYear ≡ pos 94030783
+unfolding levelOf timesOf roundZ onMagnitude roundDiv upOf
+cap-figure = refl
+
+floor-figure : floorOf publishedBook markedYear noOutage ≡ pos 53688049
+unfolding levelOf timesOf roundZ onMagnitude roundDiv upOf
+floor-figure = floor-met ∙ refl
+
+-- its rows, with the two levels that are tested
+none-applies : (cap floor : ℤ) → levelFits cap ≡ true → levelFits floor ≡ true
+    → lowest
+    ((BadBook, not (bookHolds publishedBook lastRegimeEnd))
+    ∷ (BrokenLog, not (validLog noOutage))
+    ∷ (BadYear, not (goodYearRecord markedYear))
+    ∷ (TooLarge, not (levelFits cap && levelFits floor))
+    ∷ [])
+    ≡ 0
+unfolding goodBook validRow
+none-applies cap floor c f = rw (c, f) refl
+
+marked-levels : LevelsGives publishedBook markedYear noOutage (levels.Pounds (pos 94030783) (pos 53688049))
+marked-levels =
+    let clear : lowest (levelsRows publishedBook markedYear noOutage) ≡ 0 =
+    none-applies (capLevel publishedBook markedYear) (floorOf publishedBook markedYear noOutage) (ap levelFits cap-figure) (ap levelFits floor-figure) in (
+      sym clear,
+      sym cap-figure ∙ sym (ap (λ (n : ℕ). cond (eqb n 0) (capLevel publishedBook markedYear) (pos 0)) clear),
+      sym floor-figure ∙ sym (ap (λ (n : ℕ). cond (eqb n 0) (floorOf publishedBook markedYear noOutage) (pos 0)) clear),
+    )
+
+-- ---- targets
+-- the target, entry by entry
+by-entries : (log : Log) (number : ℕ)
+    → meetsTarget publishedBook log number
+    ≡ leb (60 * targetOf publishedBook number) (mostMw * (yearEnd number (log .«regime_end») - yearStart number) - energyOf (yearStart number) (yearEnd number (log .«regime_end»)) (live log))
+by-entries log number =
+    ap (λ (x : ℕ). leb (60 * targetOf publishedBook number) (mostMw * (yearEnd number (log .«regime_end») - yearStart number) - x))
+    (sym (by-minutes (yearStart number) (yearEnd number (log .«regime_end»)) (live log)))
+
+-- where no row applies, what is given is whether the target is met
+module _ (log : Log) (number : ℕ) (clear : lowest (availabilityRows publishedBook log number) ≡ 0) where
+  given-as : (met : Bool) → meetsTarget publishedBook log number ≡ met → met ≡ targetGiven publishedBook log number
+  given-as met e = sym e ∙ sym (ap (λ (n : ℕ). cond (eqb n 0) (meetsTarget publishedBook log number) false) clear)
+
+-- 2021: 104,832 minutes with the whole cable out still meet the target
+marked-met : TargetGives publishedBook (outFor 1009440 104832) 3 target.Met
+unfolding goodBook validRow yearStart daysTo
+marked-met = (refl, given-as (outFor 1009440 104832) 3 refl true (by-entries (outFor 1009440 104832) 3 ∙ refl))
+
+-- one minute more misses it
+marked-missed : TargetGives publishedBook (outFor 1009440 104833) 3 target.Missed
+unfolding goodBook validRow yearStart daysTo
+marked-missed = (refl, given-as (outFor 1009440 104833) 3 refl false (by-entries (outFor 1009440 104833) 3 ∙ refl))
+
+-- 2020, a leap year: 106,272 minutes meet it
+marked-leap : TargetGives publishedBook (outFor 482400 106272) 2 target.Met
+unfolding goodBook validRow yearStart daysTo
+marked-leap = (refl, given-as (outFor 482400 106272) 2 refl true (by-entries (outFor 482400 106272) 2 ∙ refl))
+
+-- ---- carries
+carries : carryOf (pos 1250) 10000 10000 ∷ carryOf (negsuc 1249) 10000 10000 ∷ carryOf (pos 50000000) 10000 10200 ∷ [] ≡ pos 1299 ∷ negsuc 1298 ∷ pos 52978800 ∷ []
+unfolding upOf roundDiv onMagnitude roundZ carryOf
+carries = refl
+
+-- ---- an assessment
+accepted : lowest (assessRows fiveYears) ≡ 0
+unfolding upOf roundDiv onMagnitude roundZ carryOf balanceAfter laterWithin goodAmounts notNegative
+accepted = refl
+
+figures : assessGiven fiveYears .revenue ∷ assessGiven fiveYears .cap ∷ assessGiven fiveYears .within ∷ assessGiven fiveYears .adjustment ∷ [] ≡ pos 5403349 ∷ pos 4863014 ∷ negℤ (pos 112098) ∷ negℤ (pos 428237) ∷ []
+unfolding upOf roundDiv onMagnitude roundZ carryOf balanceAfter laterWithin goodAmounts notNegative heldBetween
+figures = refl
+
+-- ---- entries of the growth table
+entry-0 : growthOf 0 ≡ 1000000000
+unfolding growsTo
+entry-0 = growth-is 0 1000000000 (lit≤ tt) refl refl
+
+entry-100 : growthOf 100 ≡ 1038800000
+unfolding growsTo
+entry-100 = growth-is 100 1038800000 (lit≤ tt) refl refl
+
+entry-200 : growthOf 200 ≡ 1079105440
+unfolding growsTo
+entry-200 = growth-is 200 1079105440 (lit≤ tt) refl refl
+
+entry-300 : growthOf 300 ≡ 1120974731
+unfolding growsTo
+entry-300 = growth-is 300 1120974731 (lit≤ tt) refl refl
+
+given-0 : GrowthGives 0 (growth.Billionths 1000000000)
+given-0 = (refl, sym entry-0)
+
+given-100 : GrowthGives 100 (growth.Billionths 1038800000)
+given-100 = (refl, sym entry-100)
+
+given-200 : GrowthGives 200 (growth.Billionths 1079105440)
+given-200 = (refl, sym entry-200)
+
+given-300 : GrowthGives 300 (growth.Billionths 1120974731)
+given-300 = (refl, sym entry-300)
+
+-- ---- gaps
+given-gap : GapGives (record { first = 44927; last = 45291 }) (record { first = 45383; last = 45747 }) (gap.Hundredths 125)
+unfolding hundredths roundZ onMagnitude roundDiv upOf
+given-gap = (refl, refl)
+
+module _ (earlier later : Period) (e : goodPeriod earlier ≡ true) (l : goodPeriod later ≡ true) where
+  -- sums of days that differ by 3,648 give the longest gap
+  longest : daySum later ≡ daySum earlier + 3648 → GapGives earlier later (gap.Hundredths 499)
+  longest d =
+      let n : hundredths (daySum earlier) (daySum later) ≡ pos 499 = gap-is (daySum earlier) (daySum later) (omega arith) ∙ ap pos (omega arith) in
+      rw (e, l, n) (refl, refl)
+
+  -- and by 3,649 one that is not allowed
+  past-longest : daySum later ≡ daySum earlier + 3649 → GapGives earlier later (gap.Refused BadPeriod)
+  past-longest d =
+      let n : hundredths (daySum earlier) (daySum later) ≡ pos 500 = gap-is (daySum earlier) (daySum later) (omega arith) ∙ ap pos (omega arith) in
+      rw (e, l, n) (refl, refl)
+
+-- ---- a payment back
+cut-back : (k n e : ℕ) → growthOf n ≡ e → paidOf (negsuc k) n ≡ negℤ (pos (suc k * e / 1000000000))
+unfolding paidOf onMagnitude
+cut-back k n e h = ap (λ (x : ℕ). negℤ (pos (suc k * x / 1000000000))) h
+
+pays-back : PayGives (negℤ (pos 10000001)) 100 (payment.Pounds (negℤ (pos 10388001)))
+pays-back = (refl, sym (cut-back 10000000 100 1038800000 entry-100))
+
+-- ---- all of them
 -- equal lists are equal place by place
 place : (i : ℕ) {xs ys : List ℤ} → xs ≡ ys → getD xs i (pos 0) ≡ getD ys i (pos 0)
 place i h = ap (λ (zs : List ℤ). getD zs i (pos 0)) h
 
+five-figures : (r : Assessment) → AssessGives fiveYears r → FiveFigures r
+five-figures r g = record {
+  accepted = g .0 ∙ accepted;
+  revenue = ap (λ (f : Figures). f .revenue) (g .1) ∙ place 0 figures;
+  cap = ap (λ (f : Figures). f .cap) (g .1) ∙ place 1 figures;
+  within = ap (λ (f : Figures). f .within) (g .1) ∙ place 2 figures;
+  adjustment = ap (λ (f : Figures). f .adjustment) (g .1) ∙ place 3 figures;
+}
+
 pub marked : MarkedFigures
 marked = record {
-  met = (levels.marked-clear .0, levels.marked-met);
-  missed = (levels.marked-clear .1, levels.marked-missed);
-  leap = (levels.marked-clear .2, levels.marked-leap);
-  cap = levels.marked-cap;
-  floor = levels.marked-floor;
-  carry = place 0 balances.carries;
-  carry-back = place 1 balances.carries;
-  carry-index = place 2 balances.carries;
-  five-revenue = place 0 balances.figures;
-  five-cap = place 1 balances.figures;
-  five-within = place 2 balances.figures;
-  five-adjustment = place 3 balances.figures;
-  growth-0 = settlement.entry-0;
-  growth-100 = settlement.entry-100;
-  growth-200 = settlement.entry-200;
-  growth-300 = settlement.entry-300;
-  gap = settlement.years;
-  gap-most = settlement.longest;
-  gap-past = settlement.past-longest;
-  pays-back = settlement.pays-back;
+  met = λ r g. only-target publishedBook (outFor 1009440 104832) 3 r target.Met g marked-met;
+  missed = λ r g. only-target publishedBook (outFor 1009440 104833) 3 r target.Missed g marked-missed;
+  leap = λ r g. only-target publishedBook (outFor 482400 106272) 2 r target.Met g marked-leap;
+  cap-and-floor = λ r g. only-levels publishedBook markedYear noOutage r (levels.Pounds (pos 94030783) (pos 53688049)) g marked-levels;
+  carry = place 0 carries;
+  carry-back = place 1 carries;
+  carry-index = place 2 carries;
+  five-years = five-figures;
+  growth-0 = λ r g. only-growth 0 r (growth.Billionths 1000000000) g given-0;
+  growth-100 = λ r g. only-growth 100 r (growth.Billionths 1038800000) g given-100;
+  growth-200 = λ r g. only-growth 200 r (growth.Billionths 1079105440) g given-200;
+  growth-300 = λ r g. only-growth 300 r (growth.Billionths 1120974731) g given-300;
+  gap-years = λ r g. only-gap (record { first = 44927; last = 45291 }) (record { first = 45383; last = 45747 }) r (gap.Hundredths 125) g given-gap;
+  gap-most = λ earlier later e l d r g. only-gap earlier later r (gap.Hundredths 499) g (longest earlier later e l d);
+  gap-past = λ earlier later e l d r g. only-gap earlier later r (gap.Refused BadPeriod) g (past-longest earlier later e l d);
+  pays-back = λ r g. only-pay (negℤ (pos 10000001)) 100 r (payment.Pounds (negℤ (pos 10388001))) g pays-back;
 }

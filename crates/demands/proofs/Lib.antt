@@ -1,7 +1,11 @@
 -- The demands, each in a file of its own, the laws that they rest on, and the marked figures.
+pub mod Runs
 pub mod Keeping
 pub mod Standing
 pub mod Slots
+pub mod Lost
+pub mod Returns
+pub mod Demand1
+pub mod Demand2
 pub mod Demand3
 pub mod Figures
-pub mod Returns

@@ -1,5 +1,5 @@
--- Demand 2, of the calls on a return: "A return that is read and written again gives its own bytes, and a valid year that is
--- written reads back as itself." Assumes nothing.
+-- Of the calls on a return: one that is read and written again gives its own bytes, and a valid year that is written reads back as itself.
+-- Assumes nothing.
 use mathlib.Core.Path.{_≡_, sym, ap, _∙_}
 use mathlib.Core.Bool.{Bool, true, cond}
 use mathlib.Core.List.{List, _++_}
@@ -21,7 +21,8 @@ use Rattle.reading.specs.Reading.{ReturnGives}
 use Rattle.reading.proofs.Only.{only-read}
 use Rattle.writing.specs.declared.Written.{Written}
 use Rattle.writing.specs.declared.Written.the-variants.{Length}
-use Rattle.writing.proofs.Only.{same-written}
+use Rattle.refusals.proofs.Cases.{same-case}
+use Rattle.writing.proofs.Only.{written-answers}
 use Rattle.writing.specs.Written.{WriteGives}
 use Rattle.round_trip.proofs.RoundTrip.{written-read, accepted-whole, read-written}
 
@@ -53,4 +54,4 @@ module _ (bs : List ℕ) (b : Bytes bs) where
       let bytes : returnOf y ≡ bs = ap returnOf (g .2) ∙ k .0 in
       let v : WriteGives y out r o = w in
       let z = rw (sound, good, bytes, le-ltb (length out) (length bs) room) at v in
-      (same-written r (Length (length bs)) (z .0) (z .1), z .2)
+      (same-case written-answers r (Length (length bs)) (z .0) (z .1), z .2)

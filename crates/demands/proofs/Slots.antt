@@ -1,6 +1,6 @@
 -- Where the entries of a valid log stand. Assumes nothing.
 use mathlib.Core.Path.{_≡_, ap, _∙_}
-use mathlib.Core.Bool.{true, not, _&&_}
+use mathlib.Core.Bool.{true, not}
 use Prim.Native.Nat.{ℕ, _+_, _-_, _≤_, _<_}
 use native.Mathlib.Nat.{not-suc-le-zero}
 use native.Mathlib.Omega.{arith}
@@ -12,7 +12,7 @@ use Rattle.lists.proofs.Tests.{and-left, and-right}
 use Rattle.lists.proofs.Lists.{all-at, pairwise-at}
 use Rattle.outage.specs.declared.Entry.{Entry}
 use Rattle.outage.specs.declared.Log.{Log}
-use Rattle.outage.specs.Log.{slots, covers, goodEntry, sharesMinute, isZero, zeroEntry, live}
+use Rattle.outage.specs.Log.{slots, BothCover, goodEntry, sharesMinute, isZero, zeroEntry, live}
 use Rattle.outage.proofs.Order.{good-span, apart-says}
 use Rattle.outage.proofs.Holding.{Valid, parts, live-length, zero-is}
 use Rattle.demands.specs.Log.{slot}
@@ -45,14 +45,15 @@ module _ (log : Log) (o : Sound log) where
   pub in-order : (i j : ℕ) → i < j → j < log .count → slot log i .start < slot log j .start
   in-order i j h k = omega (arith, ends-before i j h k, good-span (log .«regime_end») (slot log i) (good-at i (omega arith)))
 
-  pub none-shared : (i j minute : ℕ) → i < j → j < log .count → covers minute (slot log i) ≡ true → covers minute (slot log j) ≡ true → ⊥
-  none-shared i j minute h k c d =
+  pub none-shared : (i j : ℕ) → i < j → j < log .count → BothCover (slot log i) (slot log j) → ⊥
+  none-shared i j h k b =
+      let t = b .minute in
       not-suc-le-zero {n = 0}
       (omega (
         arith,
         ends-before i j h k,
-        ltb-true minute (slot log i .end) (and-right (leb (slot log i .start) minute) (ltb minute (slot log i .end)) c),
-        leb-true (slot log j .start) minute (and-left (leb (slot log j .start) minute) (ltb minute (slot log j .end)) d),
+        ltb-true t (slot log i .end) (and-right (leb (slot log i .start) t) (ltb t (slot log i .end)) (b .first)),
+        leb-true (slot log j .start) t (and-left (leb (slot log j .start) t) (ltb t (slot log j .end)) (b .second)),
       ))
 
   pub free-zero : (i : ℕ) → log .count ≤ i → i < slots → slot log i ≡ zeroEntry

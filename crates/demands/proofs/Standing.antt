@@ -1,22 +1,25 @@
--- After any list of calls the log holds what its events leave standing. Assumes nothing.
-use mathlib.Core.Path.{_≡_, refl, sym, ap, _∙_, subst}
+-- After any sequence of calls the log holds what its events leave standing. Assumes nothing.
+use mathlib.Core.Path.{_≡_, refl, sym, ap, _∙_}
 use mathlib.Core.Bool.{Bool, true, false, not, cond, _||_}
-use mathlib.Core.List.{List, [], _∷_, _++_, append-assoc, append-nil}
+use mathlib.Core.List.{List, [], _∷_, _++_, append-nil}
 use Prim.Native.Nat.{ℕ, zero, suc, _+_}
 use native.Mathlib.Omega.{arith}
 use native.Mathlib.Nat.{suc-ne-zero, add-zero}
 use borrow.Author.Tests.{eq-eqb, ne-eqb}
 use lib.Dec.{eqb}
-use Rattle.lists.specs.Lists.{keep, total}
+use Rattle.lists.specs.Lists.{total}
 use Rattle.lists.proofs.Tests.{or-false}
 use Rattle.lists.proofs.Lists.{total-append, total-keep}
-use Rattle.refusals.specs.Refusals.{lowest}
+use Rattle.refusals.specs.Refusals.{lowest, answerNumber}
 use Rattle.outage.specs.declared.Entry.{Entry}
 use Rattle.outage.specs.declared.Log.{Log}
+use Rattle.outage.specs.declared.Logged.{Logged}
 use Rattle.outage.specs.Log.{goodRegimeEnd, lastRegimeEnd, live, holding, filed, startsAt, without}
-use Rattle.outage.specs.Calls.{emptyLog, enterRows, enterLog, cancelRows, cancelLog}
-use Rattle.demands.specs.Log.{Call, entering, cancelling, numberTo, logAfter, after, answered, Event, put, takenOut, done, events, cancelledBy, cancelledSince, standing}
+use Rattle.outage.specs.Calls.{EmptyGives, emptyLog, enterRows, enterLog, cancelRows, cancelLog}
+use Rattle.demands.specs.Log.{Call, entering, cancelling, Promised, Turn, logOf, RanFrom, logAfter, Event, put, takenOut, happened, cancelledBy, cancelledSince, standing}
 use Rattle.outage.proofs.Holding.{holding-live, holding-valid}
+use Rattle.demands.specs.Runs.{eventsOf}
+use Rattle.demands.proofs.Runs.{run-keeps}
 use Rattle.demands.proofs.Keeping.{Sound, total-filed, entered-sound, cancelled-sound}
 
 -- ---- one event more
@@ -52,20 +55,21 @@ standing-out (put x ∷ before) s = by (cancelledSince x before) (startsAt s x) 
     by false true e d h = rw (d, h, e)
     by false false e d h = rw (d, h, e)
 
--- ---- a log and its events: whatever is added up over the entries comes out the same
-pub record Stands (log : Log) (before : List Event) : Type 0 where
+-- ---- a log and its events: whatever is added up over the entries comes out the same, and the regime end is the one it was made for
+pub record Stands (regimeEnd : ℕ) (log : Log) (before : List Event) : Type 0 where
   pub sound : Sound log
   pub same : (f : Entry → ℕ) → total f (live log) ≡ total f (standing before)
+  pub end : log .«regime_end» ≡ regimeEnd
 
-module _ (log : Log) (before : List Event) (k : Stands log before) where
-  nothing-done : Stands log (before ++ [])
+module _ (regimeEnd : ℕ) (log : Log) (before : List Event) (k : Stands regimeEnd log before) where
+  nothing-done : Stands regimeEnd log (before ++ [])
   nothing-done = rw append-nil k
 
   not-done : (n m : ℕ) → n ≡ suc m → eqb n 0 ≡ false
   not-done n m h = ne-eqb n 0 (λ z. suc-ne-zero m (sym h ∙ z))
 
   -- what one call does, by its answer
-  entered-by : (e : Entry) (n : ℕ) → lowest (enterRows log e) ≡ n → Stands (enterLog log e) (before ++ cond (eqb (lowest (enterRows log e)) 0) (put e ∷ []) [])
+  entered-by : (e : Entry) (n : ℕ) → lowest (enterRows log e) ≡ n → Stands regimeEnd (enterLog log e) (before ++ cond (eqb (lowest (enterRows log e)) 0) (put e ∷ []) [])
   entered-by e zero h =
       rw (eq-eqb (lowest (enterRows log e)) 0 h)
       record {
@@ -75,10 +79,11 @@ module _ (log : Log) (before : List Event) (k : Stands log before) where
             ∙ total-filed f e (live log)
             ∙ ap (λ (x : ℕ). x + f e) (k .same f)
             ∙ sym (ap (total f) (standing-put before e) ∙ total-append f (standing before) (e ∷ []) ∙ ap (λ (x : ℕ). total f (standing before) + x) (add-zero (f e)));
+        end = k .end;
       }
   entered-by e (suc n) h = rw (not-done (lowest (enterRows log e)) n h) nothing-done
 
-  cancelled-by : (s n : ℕ) → lowest (cancelRows log s) ≡ n → Stands (cancelLog log s) (before ++ cond (eqb (lowest (cancelRows log s)) 0) (takenOut s ∷ []) [])
+  cancelled-by : (s n : ℕ) → lowest (cancelRows log s) ≡ n → Stands regimeEnd (cancelLog log s) (before ++ cond (eqb (lowest (cancelRows log s)) 0) (takenOut s ∷ []) [])
   cancelled-by s zero h =
       rw (eq-eqb (lowest (cancelRows log s)) 0 h)
       record {
@@ -88,51 +93,39 @@ module _ (log : Log) (before : List Event) (k : Stands log before) where
             ∙ total-keep f (λ (x : Entry). not (startsAt s x)) (live log)
             ∙ k .same (λ (x : Entry). cond (not (startsAt s x)) (f x) 0)
             ∙ sym (ap (total f) (standing-out before s) ∙ total-keep f (λ (x : Entry). not (startsAt s x)) (standing before));
+        end = k .end;
       }
   cancelled-by s (suc n) h = rw (not-done (lowest (cancelRows log s)) n h) nothing-done
 
-  pub call-stands : (call : Call) → Stands (logAfter log call) (before ++ cond (eqb (numberTo log call) 0) (done call) [])
-  call-stands (entering e) = entered-by e (lowest (enterRows log e)) refl
-  call-stands (cancelling s) = cancelled-by s (lowest (cancelRows log s)) refl
+  -- a result that has the number and the log of a definition stands as the definition does
+  as-given : (r : Logged) (n : ℕ) (next : Log) (events : List Event) → (answerNumber (r .answer) ≡ n) × (r .log ≡ next)
+      → Stands regimeEnd next (before ++ cond (eqb n 0) events []) → Stands regimeEnd (r .log) (before ++ cond (eqb (answerNumber (r .answer)) 0) events [])
+  as-given r n next events g s = rw (g .0, g .1) s
 
--- ---- any list of calls
-pub calls-stand : (calls : List Call) (log : Log) (before : List Event) → Stands log before → Stands (after log calls) (before ++ events (answered log calls))
-calls-stand [] log before k = rw append-nil k
-calls-stand (call ∷ calls) log before k =
-    subst (λ (b : List Event). Stands (after (logAfter log call) calls) b)
-    (append-assoc before (cond (eqb (numberTo log call) 0) (done call) []) (events (answered (logAfter log call) calls)))
-    (calls-stand calls (logAfter log call) (before ++ cond (eqb (numberTo log call) 0) (done call) []) (call-stands log before k call))
-
--- ---- the regime end never moves
-call-end : (log : Log) (call : Call) → logAfter log call .«regime_end» ≡ log .«regime_end»
-call-end log (entering e) = by (eqb (lowest (enterRows log e)) 0)
-  where
-    by : (b : Bool) → (cond b (holding (log .«regime_end») (filed e (live log))) log) .«regime_end» ≡ log .«regime_end»
-    by true = refl
-    by false = refl
-call-end log (cancelling s) = by (eqb (lowest (cancelRows log s)) 0)
-  where
-    by : (b : Bool) → (cond b (holding (log .«regime_end») (without s (live log))) log) .«regime_end» ≡ log .«regime_end»
-    by true = refl
-    by false = refl
-
-pub calls-end : (calls : List Call) (log : Log) → after log calls .«regime_end» ≡ log .«regime_end»
-calls-end [] log = refl
-calls-end (call ∷ calls) log = calls-end calls (logAfter log call) ∙ call-end log call
+  pub call-stands : (call : Call) (r : Logged) → Promised log call r → Stands regimeEnd (r .log) (before ++ happened (call, r))
+  call-stands (entering e) r g = as-given r (lowest (enterRows log e)) (enterLog log e) (put e ∷ []) g (entered-by e (lowest (enterRows log e)) refl)
+  call-stands (cancelling s) r g = as-given r (lowest (cancelRows log s)) (cancelLog log s) (takenOut s ∷ []) g (cancelled-by s (lowest (cancelRows log s)) refl)
 
 -- ---- where every log starts
-pub empty-stands : (regimeEnd : ℕ) → Stands (emptyLog regimeEnd) []
+abbrev pub endMade : ℕ → ℕ
+endMade regimeEnd = cond (goodRegimeEnd regimeEnd) regimeEnd lastRegimeEnd
+
+empty-stands : (regimeEnd : ℕ) → Stands (endMade regimeEnd) (emptyLog regimeEnd) []
 empty-stands regimeEnd = by (goodRegimeEnd regimeEnd) refl
   where
-    fresh : (re : ℕ) → goodRegimeEnd re ≡ true → Stands (holding re []) []
+    fresh : (re : ℕ) → goodRegimeEnd re ≡ true → Stands re (holding re []) []
     fresh re g = record {
       sound = record { rows = refl; valid = holding-valid re [] g (omega arith) (record { good = refl; order = refl; shared = refl }) };
       same = λ f. refl;
+      end = refl;
     }
 
-    by : (b : Bool) → goodRegimeEnd regimeEnd ≡ b → Stands (emptyLog regimeEnd) []
+    by : (b : Bool) → goodRegimeEnd regimeEnd ≡ b → Stands (endMade regimeEnd) (emptyLog regimeEnd) []
     by true g = rw g (fresh regimeEnd g)
     by false g = rw g (fresh lastRegimeEnd refl)
 
-pub history-stands : (regimeEnd : ℕ) (calls : List Call) → Stands (after (emptyLog regimeEnd) calls) (events (answered (emptyLog regimeEnd) calls))
-history-stands regimeEnd calls = calls-stand calls (emptyLog regimeEnd) [] (empty-stands regimeEnd)
+-- ---- any run
+pub run-stands : (regimeEnd : ℕ) (made : Logged) → EmptyGives regimeEnd made → (turns : List Turn) → RanFrom (made .log) turns
+    → Stands (endMade regimeEnd) (logAfter (made .log) turns) (eventsOf happened turns)
+run-stands regimeEnd made m turns g =
+    run-keeps Promised logOf happened (Stands (endMade regimeEnd)) (call-stands (endMade regimeEnd)) turns (made .log) [] (rw (m .1) (empty-stands regimeEnd)) g

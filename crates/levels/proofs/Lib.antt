@@ -1,6 +1,5 @@
--- Laws on ranges, availability and levels; that each call has one answer; and the marked figures.
+-- Laws on ranges, availability and levels, and that each call answers in one way.
 pub mod Ranges
 pub mod Only
 pub mod Measured
 pub mod Levelled
-pub mod Figures

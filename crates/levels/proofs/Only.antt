@@ -1,11 +1,12 @@
--- For each call no second answer fits, and its rows stand in the order of refusals. Assumes nothing.
-use mathlib.Core.Path.{_≡_, refl, sym, ap, _∙_}
-use mathlib.Core.Bool.{true}
+-- Each call answers and no second answer fits, and its rows stand in the order of refusals. Assumes nothing.
+use mathlib.Core.Path.{_≡_, refl, sym, _∙_}
+use mathlib.Core.Logic.{_⊎_, inl, inr}
+use mathlib.Core.Bool.{Bool, true, false}
 use Prim.Native.Nat.{ℕ}
-use native.Mathlib.Omega.{arith}
-use lib.IntN.{ℤ}
-use Rattle.refusals.specs.Refusals.{inTurn, standIn}
-use Rattle.refusals.proofs.Laws.{same-refusal, never-zero}
+use lib.IntN.{ℤ, pos}
+use Rattle.refusals.specs.Refusals.{numberOf, inTurn, standIn}
+use Rattle.refusals.specs.Answers.{One}
+use Rattle.refusals.proofs.Cases.{Refusing, Answers, same-case, one-case, same-two, one-two}
 use Rattle.outage.specs.declared.Log.{Log}
 use Rattle.year.specs.declared.Year.{Year}
 use Rattle.levels.specs.declared.Book.{Book}
@@ -15,50 +16,87 @@ use Rattle.levels.specs.declared.measuring.Target.{Target}
 use Rattle.levels.specs.declared.measuring.Target.the-variants as target
 use Rattle.levels.specs.declared.levelling.Levels.{Levels}
 use Rattle.levels.specs.declared.levelling.Levels.the-variants as levels
-use Rattle.levels.specs.Availability.{availabilityRows, availabilityNumber, availabilityFigure, targetNumber, targetMet, AvailabilityGives, TargetGives}
-use Rattle.levels.specs.Levels.{levelsRows, levelsNumber, capFigure, floorFigure, LevelsGives}
+use Rattle.levels.specs.Availability.{availabilityIn, availabilityRows, availabilityNumber, availabilityFigure, AvailabilityGives, meetsTarget, targetNumber, targetMet, TargetGives}
+use Rattle.levels.specs.Levels.{capLevel, floorOf, levelsRows, levelsNumber, capFigure, floorFigure, LevelsGives}
 
 -- ---- availability
--- the number and the figure determine the case
-same-availability : (r s : Availability) → availabilityNumber r ≡ availabilityNumber s → availabilityFigure r ≡ availabilityFigure s → r ≡ s
-same-availability (availability.MwMinutes x) (availability.MwMinutes y) n f = ap availability.MwMinutes f
-same-availability (availability.MwMinutes x) (availability.Refused why) n f = absurd (omega (arith, never-zero why))
-same-availability (availability.Refused why) (availability.MwMinutes y) n f = absurd (omega (arith, never-zero why))
-same-availability (availability.Refused why) (availability.Refused other) n f = ap availability.Refused (same-refusal why other n)
+availability-cases : (r : Availability) → (r ≡ availability.MwMinutes (availabilityFigure r)) ⊎ Refusing availability.Refused r
+availability-cases (availability.MwMinutes x) = inl refl
+availability-cases (availability.Refused why) = inr (record { why = why; is = refl })
+
+pub availability-answers : Answers availabilityNumber availabilityFigure 0 availability.MwMinutes availability.Refused
+availability-answers = record {
+  number-found = λ x. refl;
+  number-refused = λ why. refl;
+  figures-found = λ x. refl;
+  figures-refused = λ why. refl;
+  cases = availability-cases;
+}
 
 pub only-availability : (book : Book) (log : Log) (number : ℕ) (r s : Availability) → AvailabilityGives book log number r → AvailabilityGives book log number s → r ≡ s
-only-availability book log number r s p q = same-availability r s (p .0 ∙ sym (q .0)) (p .1 ∙ sym (q .1))
+only-availability book log number r s p q = same-case availability-answers r s (p .0 ∙ sym (q .0)) (p .1 ∙ sym (q .1))
+
+pub one-availability : (book : Book) (log : Log) (number : ℕ) → One (AvailabilityGives book log number)
+one-availability book log number = one-case availability-answers (availabilityRows book log number) (availabilityIn log number)
 
 pub availability-in-turn : (book : Book) (log : Log) (number : ℕ) → standIn inTurn (availabilityRows book log number) ≡ true
 availability-in-turn book log number = refl
 
 -- ---- the target
-same-target : (r s : Target) → targetNumber r ≡ targetNumber s → targetMet r ≡ targetMet s → r ≡ s
-same-target target.Met target.Met n f = refl
-same-target target.Met target.Missed n f = let z : _≡_ {A = ℕ} 0 1 = cc in absurd (omega arith)
-same-target target.Met (target.Refused why) n f = absurd (omega (arith, never-zero why))
-same-target target.Missed target.Met n f = let z : _≡_ {A = ℕ} 0 1 = cc in absurd (omega arith)
-same-target target.Missed target.Missed n f = refl
-same-target target.Missed (target.Refused why) n f = absurd (omega (arith, never-zero why))
-same-target (target.Refused why) target.Met n f = absurd (omega (arith, never-zero why))
-same-target (target.Refused why) target.Missed n f = absurd (omega (arith, never-zero why))
-same-target (target.Refused why) (target.Refused other) n f = ap target.Refused (same-refusal why other n)
+abbrev toldOf : Bool → Target
+toldOf true = target.Met
+toldOf false = target.Missed
+
+target-cases : (r : Target) → (r ≡ toldOf (targetMet r)) ⊎ Refusing target.Refused r
+target-cases target.Met = inl refl
+target-cases target.Missed = inl refl
+target-cases (target.Refused why) = inr (record { why = why; is = refl })
+
+told-number : (met : Bool) → targetNumber (toldOf met) ≡ 0
+told-number true = refl
+told-number false = refl
+
+told-met : (met : Bool) → targetMet (toldOf met) ≡ met
+told-met true = refl
+told-met false = refl
+
+pub target-answers : Answers targetNumber targetMet false toldOf target.Refused
+target-answers = record {
+  number-found = told-number;
+  number-refused = λ why. refl;
+  figures-found = told-met;
+  figures-refused = λ why. refl;
+  cases = target-cases;
+}
 
 pub only-target : (book : Book) (log : Log) (number : ℕ) (r s : Target) → TargetGives book log number r → TargetGives book log number s → r ≡ s
-only-target book log number r s p q = same-target r s (p .0 ∙ sym (q .0)) (p .1 ∙ sym (q .1))
+only-target book log number r s p q = same-case target-answers r s (p .0 ∙ sym (q .0)) (p .1 ∙ sym (q .1))
+
+pub one-target : (book : Book) (log : Log) (number : ℕ) → One (TargetGives book log number)
+one-target book log number = one-case target-answers (availabilityRows book log number) (meetsTarget book log number)
 
 -- ---- the levels
-pounds-made : {a b c d : ℤ} → a ≡ b → c ≡ d → levels.Pounds a c ≡ levels.Pounds b d
-pounds-made p q = cc
+abbrev poundsOf : ℤ × ℤ → Levels
+poundsOf p = levels.Pounds (p .0) (p .1)
 
-same-levels : (r s : Levels) → levelsNumber r ≡ levelsNumber s → capFigure r ≡ capFigure s → floorFigure r ≡ floorFigure s → r ≡ s
-same-levels (levels.Pounds a b) (levels.Pounds c d) n f g = pounds-made f g
-same-levels (levels.Pounds a b) (levels.Refused why) n f g = absurd (omega (arith, never-zero why))
-same-levels (levels.Refused why) (levels.Pounds c d) n f g = absurd (omega (arith, never-zero why))
-same-levels (levels.Refused why) (levels.Refused other) n f g = ap levels.Refused (same-refusal why other n)
+levels-cases : (r : Levels) → (r ≡ poundsOf (capFigure r, floorFigure r)) ⊎ Refusing levels.Refused r
+levels-cases (levels.Pounds cap floor) = inl refl
+levels-cases (levels.Refused why) = inr (record { why = why; is = refl })
+
+pub levels-answers : Answers levelsNumber (λ (r : Levels). (capFigure r, floorFigure r)) (pos 0, pos 0) poundsOf levels.Refused
+levels-answers = record {
+  number-found = λ p. refl;
+  number-refused = λ why. refl;
+  figures-found = λ p. refl;
+  figures-refused = λ why. refl;
+  cases = levels-cases;
+}
 
 pub only-levels : (book : Book) (y : Year) (log : Log) (r s : Levels) → LevelsGives book y log r → LevelsGives book y log s → r ≡ s
-only-levels book y log r s p q = same-levels r s (p .0 ∙ sym (q .0)) (p .1 ∙ sym (q .1)) (p .2 ∙ sym (q .2))
+only-levels book y log r s p q = same-two levels-answers r s (p .0 ∙ sym (q .0)) (p .1 ∙ sym (q .1)) (p .2 ∙ sym (q .2))
+
+pub one-levels : (book : Book) (y : Year) (log : Log) → One (LevelsGives book y log)
+one-levels book y log = one-two levels-answers (levelsRows book y log) (capLevel book y) (floorOf book y log)
 
 pub levels-in-turn : (book : Book) (y : Year) (log : Log) → standIn inTurn (levelsRows book y log) ≡ true
 levels-in-turn book y log = refl

@@ -1,5 +1,5 @@
 -- Laws of pounds, of the rounding rule, and of signed numbers by their parts.
 pub mod Pounds
 pub mod Signs
-pub mod Rounded
 pub mod Parts
+pub mod Rounded

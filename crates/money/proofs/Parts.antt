@@ -1,11 +1,12 @@
 -- A signed number as what it has above zero and below zero, both natural numbers, which `omega` reads.
 -- List `sum a b`, `diff a b`, `abs a` for `omega`; an order or an equation goes over by `from-le`, `from-lt`, `from-ge`, `to-le`, `to-eq`. Assumes nothing.
-use mathlib.Core.Path.{_≡_, refl, ap}
+use mathlib.Core.Path.{_≡_, refl, ap, _∙_}
 use mathlib.Core.Bool.{Bool, true, false, cond}
-use Prim.Native.Nat.{ℕ, zero, suc, _+_, _-_, _≤_, _<_}
+use Prim.Native.Nat.{ℕ, zero, suc, _+_, _*_, _-_, _≤_, _<_}
+use native.Mathlib.Nat.{add-mul, mul-assoc}
 use native.Mathlib.Omega.{arith}
 use lib.Dec.{ltb}
-use lib.IntN.{ℤ, pos, negsuc, negℤ, natAbs, _+ℤ_, _-ℤ_}
+use lib.IntN.{ℤ, pos, negsuc, negℤ, natAbs, _+ℤ_, _-ℤ_, _*ℤ_}
 use lib.Signed.{ltZ, leZ}
 use borrow.Author.Tests.{ltb-true, ltb-false, leb-true, le-leb}
 
@@ -97,3 +98,61 @@ to-eq (pos a) (pos b) h = let e : a ≡ b = omega arith in ap pos e
 to-eq (pos a) (negsuc b) h = absurd (omega arith)
 to-eq (negsuc a) (pos b) h = absurd (omega arith)
 to-eq (negsuc a) (negsuc b) h = let e : a ≡ b = omega arith in ap negsuc e
+
+-- ---- so many times a number
+-- the parts of a multiple
+pub times-over : (a : ℤ) (k : ℕ) → over (a *ℤ pos k) ≡ over a * k
+unfolding over under
+times-over (pos n) k = refl
+times-over (negsuc n) k = omega (arith, neg-over (pos (suc n * k)))
+
+pub times-under : (a : ℤ) (k : ℕ) → under (a *ℤ pos k) ≡ under a * k
+unfolding over under
+times-under (pos n) k = omega arith
+times-under (negsuc n) k = neg-under (pos (suc n * k))
+
+-- a multiple of a sum
+pub times-sum : (a b : ℤ) (k : ℕ) → (a +ℤ b) *ℤ pos k ≡ a *ℤ pos k +ℤ b *ℤ pos k
+times-sum a b k =
+    to-eq ((a +ℤ b) *ℤ pos k) (a *ℤ pos k +ℤ b *ℤ pos k)
+    (omega (
+      arith,
+      sum (a *ℤ pos k) (b *ℤ pos k),
+      times-over (a +ℤ b) k,
+      times-under (a +ℤ b) k,
+      times-over a k,
+      times-under a k,
+      times-over b k,
+      times-under b k,
+      simp add-mul at (ap (λ (j : ℕ). j * k) (sum a b)),
+    ))
+
+-- of a number turned round
+pub times-neg : (a : ℤ) (k : ℕ) → negℤ a *ℤ pos k ≡ negℤ (a *ℤ pos k)
+times-neg a k =
+    to-eq (negℤ a *ℤ pos k) (negℤ (a *ℤ pos k))
+    (omega (
+      arith,
+      times-over (negℤ a) k,
+      times-under (negℤ a) k,
+      times-over a k,
+      times-under a k,
+      neg-over (a *ℤ pos k),
+      neg-under (a *ℤ pos k),
+      ap (λ (m : ℕ). m * k) (neg-over a),
+      ap (λ (m : ℕ). m * k) (neg-under a),
+    ))
+
+-- and of a multiple
+pub times-times : (a : ℤ) (j k : ℕ) → a *ℤ pos j *ℤ pos k ≡ a *ℤ pos (j * k)
+times-times a j k =
+    to-eq (a *ℤ pos j *ℤ pos k) (a *ℤ pos (j * k))
+    (omega (
+      arith,
+      times-over (a *ℤ pos j) k,
+      times-under (a *ℤ pos j) k,
+      times-over a (j * k),
+      times-under a (j * k),
+      ap (λ (m : ℕ). m * k) (times-over a j) ∙ mul-assoc (over a) j k,
+      ap (λ (m : ℕ). m * k) (times-under a j) ∙ mul-assoc (under a) j k,
+    ))

@@ -1,17 +1,18 @@
--- The rounding rule. Only `up-le`, `up-none` and `up-mono` look into `upOf`. Assumes nothing.
+-- The rounding rule. Only `up-le`, `up-none`, `up-mono` and `up-near` look into `upOf`. Assumes nothing.
 use mathlib.Core.Path.{_≡_, refl, ap, _∙_, subst}
 use mathlib.Core.Bool.{Bool, true, false, cond, _&&_}
 use mathlib.Core.Logic.{⊎-elim}
-use Prim.Native.Nat.{ℕ, zero, suc, _*_, _/_, _%_, _≤_, _<_}
-use native.Mathlib.Nat.{eq-or-lt-of-le, div-le-of-le-mul, div-add-mod, mul-comm, le-mul-of-pos-right, le-div-iff-mul-le, div-mul-le-self, le-trans}
+use Prim.Native.Nat.{ℕ, zero, suc, _+_, _*_, _/_, _%_, _≤_, _<_}
+use native.Mathlib.Nat.{eq-or-lt-of-le, div-le-of-le-mul, div-add-mod, div-add-mod', mod-lt, add-mul, mul-comm, le-mul-of-pos-right, le-div-iff-mul-le, div-mul-le-self, le-trans}
 use native.Mathlib.Omega.{arith}
 use lib.Arith.{le-zero}
 use lib.Dec.{T, leb}
-use lib.IntN.{ℤ, pos, negsuc, negℤ, natAbs, _*ℤ_}
+use lib.IntN.{ℤ, pos, negsuc, negℤ, natAbs, _-ℤ_, _*ℤ_}
 use lib.Signed.{ltZ}
-use borrow.Author.Tests.{ltb-true, lt-ltb, le-leb, lt-leb, leb-true}
+use borrow.Author.Tests.{ltb-true, lt-ltb, le-leb, lt-leb, leb-true, leb-false}
 use Rattle.money.specs.Rounding.{upOf, roundDiv, onMagnitude, roundZ, inReach, scaledOf}
 use Rattle.money.proofs.Pounds.{abs-neg}
+use Rattle.money.proofs.Parts.{over, under, diff, neg-over, neg-under, times-over, times-under}
 
 one-or-none : (t : Bool) → cond t 1 0 ≤ 1
 one-or-none true = omega arith
@@ -37,6 +38,15 @@ cond-mono false false h = omega arith
 pub up-mono : (q d : ℕ) {r s : ℕ} → r ≤ s → upOf q r d ≤ upOf q s d
 unfolding upOf
 up-mono q d {r} {s} h = cond-mono (leb d (2 * r)) (leb d (2 * s)) (λ e. le-leb d (2 * s) (omega (arith, leb-true d (2 * r) e)))
+
+half-or-none : (r d : ℕ) → r < d → (t : Bool) → leb d (2 * r) ≡ t → (2 * (cond t 1 0 * d) ≤ 2 * r + d) × (2 * r ≤ 2 * (cond t 1 0 * d) + d)
+half-or-none r d h true e = omega (arith, leb-true d (2 * r) e)
+half-or-none r d h false e = omega (arith, leb-false d (2 * r) e)
+
+-- what is added, times the divisor, is within half the divisor of the rest
+pub up-near : (q r d : ℕ) → r < d → (2 * (upOf q r d * d) ≤ 2 * r + d) × (2 * r ≤ 2 * (upOf q r d * d) + d)
+unfolding upOf
+up-near q r d h = half-or-none r d h (leb d (2 * r)) refl
 
 -- ---- without a sign
 -- a quotient of at most a whole number rounds to at most that number
@@ -70,6 +80,13 @@ round-mono d {m} {n} p h =
     (λ (lt : m / d < n / d). omega (arith, up-le (m / d) (m % d) d))
     (eq-or-lt-of-le (le-div-iff-mul-le p .1 (le-trans (div-mul-le-self m d) h)))
 
+-- the rounded quotient times the divisor is within half the divisor of what is divided
+pub round-div-near : (n d : ℕ) → 0 < d → (2 * (roundDiv n d * d) ≤ 2 * n + d) × (2 * n ≤ 2 * (roundDiv n d * d) + d)
+unfolding roundDiv
+round-div-near n d h =
+    omega
+    (arith, add-mul (n / d) (upOf (n / d) (n % d) d) d, div-add-mod' n d, up-near (n / d) (n % d) d (mod-lt n h))
+
 -- ---- with a sign
 on-neg : (f : ℕ → ℕ) → f 0 ≡ 0 → (n : ℕ) → onMagnitude f (negℤ (pos n)) ≡ negℤ (pos (f n))
 unfolding onMagnitude
@@ -93,7 +110,8 @@ unfolding onMagnitude
 abs-on f (pos n) = refl
 abs-on f (negsuc n) = abs-neg (pos (f (suc n)))
 
-abs-times : (z : ℤ) (by : ℕ) → natAbs (z *ℤ pos by) ≡ natAbs z * by
+-- the magnitude of a multiple
+pub abs-times : (z : ℤ) (by : ℕ) → natAbs (z *ℤ pos by) ≡ natAbs z * by
 abs-times (pos n) by = refl
 abs-times (negsuc n) by = abs-neg (pos (suc n * by))
 
@@ -101,6 +119,26 @@ abs-times (negsuc n) by = abs-neg (pos (suc n * by))
 pub abs-round : (z : ℤ) (by over : ℕ) → natAbs (roundZ (z *ℤ pos by) over) ≡ roundDiv (natAbs z * by) over
 unfolding roundZ
 abs-round z by over = abs-on (λ (m : ℕ). roundDiv m over) (z *ℤ pos by) ∙ ap (λ (m : ℕ). roundDiv m over) (abs-times z by)
+
+within-half : (z : ℤ) (d : ℕ) → 2 * over z ≤ 2 * under z + d → 2 * under z ≤ 2 * over z + d → 2 * natAbs z ≤ d
+unfolding over under
+within-half (pos n) d h k = omega arith
+within-half (negsuc n) d h k = omega arith
+
+-- the rounded quotient times the divisor is within half the divisor of what is divided, whatever its sign
+pub round-near : (z : ℤ) (d : ℕ) → 0 < d → 2 * natAbs (roundZ z d *ℤ pos d -ℤ z) ≤ d
+unfolding roundZ onMagnitude over under
+round-near (pos n) d h =
+    let near = round-div-near n d h in
+    let by = diff (pos (roundDiv n d * d)) (pos n) in
+    within-half (pos (roundDiv n d * d) -ℤ pos n) d (omega arith) (omega arith)
+round-near (negsuc n) d h =
+    let r : ℕ = roundDiv (suc n) d in
+    let near = round-div-near (suc n) d h in
+    let by = diff (negℤ (pos r) *ℤ pos d) (negsuc n) in
+    let none : over (negℤ (pos r) *ℤ pos d) ≡ 0 = omega (arith, times-over (negℤ (pos r)) d, ap (λ (k : ℕ). k * d) (neg-over (pos r))) in
+    let all : under (negℤ (pos r) *ℤ pos d) ≡ r * d = times-under (negℤ (pos r)) d ∙ ap (λ (k : ℕ). k * d) (neg-under (pos r)) in
+    within-half (negℤ (pos r) *ℤ pos d -ℤ negsuc n) d (omega arith) (omega arith)
 
 -- ---- scaled
 -- in reach it is the product, divided and rounded

@@ -103,6 +103,14 @@ refused-not a rows why n e =
     let k : lowest rows ≡ numberOf why = sym n ∙ ap answerNumber e in
     ne-eqb (lowest rows) 0 (λ z. not-suc-le-zero {n = 0} (omega (arith, never-zero why)))
 
+-- what a call gives is the one thing where it is not refused and the other where it is
+module _ {A : Type 0} (rows : Rows) (n : ℕ) (given asked other : A) (number : n ≡ lowest rows) (is : given ≡ cond (accepted rows) asked other) where
+  pub beside-accepted : n ≡ 0 → given ≡ asked
+  beside-accepted z = is ∙ ap (λ (b : Bool). cond b asked other) (eq-eqb (lowest rows) 0 (sym number ∙ z))
+
+  pub beside-refused : (n ≡ 0 → ⊥) → given ≡ other
+  beside-refused z = is ∙ ap (λ (b : Bool). cond b asked other) (ne-eqb (lowest rows) 0 (λ e. z (number ∙ e)))
+
 -- the numbers in the order in which they are looked for: each of 1 to 14 once
 pub turns : map numberOf inTurn ≡ 8 ∷ 1 ∷ 2 ∷ 3 ∷ 4 ∷ 5 ∷ 6 ∷ 7 ∷ 9 ∷ 12 ∷ 11 ∷ 10 ∷ 13 ∷ 14 ∷ []
 turns = refl

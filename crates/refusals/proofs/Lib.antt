@@ -1,2 +1,3 @@
--- Laws on the numbers.
+-- Laws on refusals and on answers.
 pub mod Laws
+pub mod Cases

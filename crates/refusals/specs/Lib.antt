@@ -1,2 +1,3 @@
--- The numbers a call can give instead, and the order in which they are looked for.
+-- The refusals, their numbers and their order, and what it is to answer.
 pub mod Refusals
+pub mod Answers

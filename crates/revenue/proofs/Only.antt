@@ -1,24 +1,34 @@
--- For assessed revenue no second answer fits, and its rows stand in the order of refusals. Assumes nothing.
-use mathlib.Core.Path.{_≡_, refl, sym, ap, _∙_}
+-- Assessed revenue is answered and no second answer fits, and its rows stand in the order of refusals. Assumes nothing.
+use mathlib.Core.Path.{_≡_, refl, sym, _∙_}
+use mathlib.Core.Logic.{_⊎_, inl, inr}
 use mathlib.Core.Bool.{true}
-use native.Mathlib.Nat.{not-suc-le-zero}
-use native.Mathlib.Omega.{arith}
+use lib.IntN.{pos}
 use Rattle.refusals.specs.Refusals.{inTurn, standIn}
-use Rattle.refusals.proofs.Laws.{same-refusal, never-zero}
+use Rattle.refusals.specs.Answers.{One}
+use Rattle.refusals.proofs.Cases.{Refusing, Answers, same-case, one-case}
 use Rattle.year.specs.declared.Year.{Year}
 use Rattle.revenue.specs.declared.Revenue.{Revenue}
 use Rattle.revenue.specs.declared.Revenue.the-variants.{Pounds, Refused}
-use Rattle.revenue.specs.Revenue.{revenueRows, revenueNumber, revenueFigure, RevenueGives}
+use Rattle.revenue.specs.Revenue.{assessedRevenue, revenueRows, revenueNumber, revenueFigure, RevenueGives}
 
--- the number and the figure determine the case
-pub same-revenue : (r s : Revenue) → revenueNumber r ≡ revenueNumber s → revenueFigure r ≡ revenueFigure s → r ≡ s
-same-revenue (Pounds a) (Pounds b) n f = ap Pounds f
-same-revenue (Pounds a) (Refused why) n f = absurd (not-suc-le-zero {n = 0} (omega (arith, never-zero why)))
-same-revenue (Refused why) (Pounds b) n f = absurd (not-suc-le-zero {n = 0} (omega (arith, never-zero why)))
-same-revenue (Refused why) (Refused other) n f = ap Refused (same-refusal why other n)
+revenue-cases : (r : Revenue) → (r ≡ Pounds (revenueFigure r)) ⊎ Refusing Refused r
+revenue-cases (Pounds z) = inl refl
+revenue-cases (Refused why) = inr (record { why = why; is = refl })
+
+pub revenue-answers : Answers revenueNumber revenueFigure (pos 0) Pounds Refused
+revenue-answers = record {
+  number-found = λ z. refl;
+  number-refused = λ why. refl;
+  figures-found = λ z. refl;
+  figures-refused = λ why. refl;
+  cases = revenue-cases;
+}
 
 pub only-revenue : (y : Year) (r s : Revenue) → RevenueGives y r → RevenueGives y s → r ≡ s
-only-revenue y r s p q = same-revenue r s (p .0 ∙ sym (q .0)) (p .1 ∙ sym (q .1))
+only-revenue y r s p q = same-case revenue-answers r s (p .0 ∙ sym (q .0)) (p .1 ∙ sym (q .1))
+
+pub one-revenue : (y : Year) → One (RevenueGives y)
+one-revenue y = one-case revenue-answers (revenueRows y) (assessedRevenue y)
 
 pub revenue-in-turn : (y : Year) → standIn inTurn (revenueRows y) ≡ true
 revenue-in-turn y = refl

@@ -1,5 +1,6 @@
--- The format's laws, the round trip both ways, and where a refusal stands.
+-- The format's laws, the round trip both ways, where a refusal stands, and a return field after field.
 pub mod Lawful
 pub mod Years
 pub mod RoundTrip
 pub mod Places
+pub mod Flat

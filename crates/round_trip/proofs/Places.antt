@@ -1,37 +1,35 @@
 -- 13 is given exactly where no valid year writes these bytes. The bytes before its place are whole fields that begin some
--- valid return, and no valid return goes on there with the field, or the end, that was found. Assumes nothing.
+-- valid return, and no valid return goes on there with the field, or the end, that was found. No other place is such a one,
+-- and no two valid years have the same return. Assumes nothing.
 use mathlib.Core.Path.{_≡_, refl, sym, ap, subst, _∙_}
 use mathlib.Core.Bool.{true, cond}
-use mathlib.Core.List.{List, [], _∷_, _++_, append-nil}
-use Prim.Native.Nat.{ℕ, _+_, _-_, _≤_}
+use mathlib.Core.Logic.{_⊎_, inl, inr}
+use mathlib.Core.List.{List, [], _∷_, _++_, append-assoc, append-nil}
+use Prim.Native.Nat.{ℕ, _+_, _-_, _≤_, _<_}
 use native.Mathlib.Nat.{not-suc-le-zero}
 use native.Mathlib.Omega.{arith}
-use borrow.Author.Tests.{le-leb}
-use lib.ListN.{length, take, drop, replicate, length-append, length-replicate}
-use lib.Seq.{take-at, drop-at}
+use borrow.Author.Tests.{le-leb, lt-leb}
+use lib.ListN.{length, take, drop, replicate, length-append, length-drop, length-replicate, take-append-drop}
+use lib.Seq.{take-at, drop-at, take-add, length-take-le}
 use Rattle.lists.specs.Lists.{all}
+use Rattle.lists.proofs.Tests.{and-left, le-or-lt}
 use Rattle.refusals.specs.Refusals.{lowest}
 use Rattle.refusals.specs.declared.Refusal.the-variants.{Malformed}
-use Rattle.outage.specs.Log.{slots, lastRegimeEnd}
+use Rattle.outage.specs.Log.{lastRegimeEnd}
 use Rattle.year.specs.declared.Year.{Year}
 use Rattle.year.specs.Year.{lineSlots, zeroLine}
 use Rattle.codec.specs.Numbers.{Bytes}
 use Rattle.codec.specs.Fields.{isWhole, joined}
 use Rattle.codec.specs.Format.{Res, got, stuck}
+use Rattle.codec.proofs.Fields.{no-empty, Further, further}
 use Rattle.codec.proofs.Places.{restOf, moved, SameField}
 use Rattle.filing.specs.Form.{Parts, form}
-use Rattle.filing.specs.Return.{yearOf, partsOf, mostBytes, Reading, whole, refused, finish, readingOf, isRefused, readRows, validYear, returnOf}
+use Rattle.filing.specs.Return.{yearOf, partsOf, mostBytes, Reading, whole, refused, finish, readingOf, isRefused, readRows, returnOf}
 use Rattle.outage.proofs.Holding.{holding-slots}
+use Rattle.round_trip.specs.Places.{Files, Filed, Stands}
 use Rattle.round_trip.proofs.Lawful.{form-lawful, form-placed}
 use Rattle.round_trip.proofs.Years.{fine, parts-valid, parts-back}
-use Rattle.round_trip.proofs.RoundTrip.{all-read, written-read, found}
-
--- bytes are the return of a valid year, which has its 64 line slots and 400 entry slots
-pub record Files (y : Year) (bs : List ℕ) : Type 0 where
-  pub row : length (y .lines) ≡ lineSlots
-  pub slotted : length (y .log .entries) ≡ slots
-  pub valid : validYear y ≡ true
-  pub is : returnOf y ≡ bs
+use Rattle.round_trip.proofs.RoundTrip.{all-read, written-read, same-year, found}
 
 -- what the format may write is the return of a valid year
 files : (p : Parts) → form .ok p ≡ true → Files (yearOf p) (form .write p)
@@ -47,15 +45,15 @@ files p h =
     }
 
 -- ---- 13 exactly where no valid year writes these bytes
-pub accepted-filed : (y : Year) (bs : List ℕ) → Files y bs → lowest (readRows bs) ≡ 0
-accepted-filed y bs f =
-    let e : readingOf bs ≡ whole y = ap readingOf (sym (f .is)) ∙ written-read y (f .row) (f .slotted) (f .valid) in
-    ap (λ (r : Reading). lowest ((Malformed, isRefused r) ∷ [])) e
+filed-read : (y : Year) (bs : List ℕ) → Files y bs → readingOf bs ≡ whole y
+filed-read y bs f = ap readingOf (sym (f .is)) ∙ written-read y (f .row) (f .slotted) (f .valid)
 
--- the return that is read
-pub record Filed (bs : List ℕ) : Type 0 where
-  pub year : Year
-  pub files : Files year bs
+pub accepted-filed : (y : Year) (bs : List ℕ) → Files y bs → lowest (readRows bs) ≡ 0
+accepted-filed y bs f = ap (λ (r : Reading). lowest ((Malformed, isRefused r) ∷ [])) (filed-read y bs f)
+
+-- two valid years with the same return are one
+pub same-bytes : (x y : Year) (bs : List ℕ) → Files x bs → Files y bs → x ≡ y
+same-bytes x y bs f g = same-year x y (sym (filed-read x bs f) ∙ filed-read y bs g)
 
 pub filed-accepted : (bs : List ℕ) → Bytes bs → lowest (readRows bs) ≡ 0 → Filed bs
 filed-accepted bs b h = by (readingOf bs) refl h
@@ -72,20 +70,6 @@ filed-accepted bs b h = by (readingOf bs) refl h
         }
 
 -- ---- where a refused reading stands
-pub record Stands (bs : List ℕ) (place : ℕ) : Type 0 where
-  -- the bytes before the place are whole fields
-  pub fields : List (List ℕ)
-  pub all-whole : all isWhole fields ≡ true
-  pub before : take place bs ≡ joined fields
-  -- they begin some valid return
-  pub year : Year
-  pub more : List ℕ
-  pub begins : Files year (take place bs ++ more)
-  -- no valid return goes on there with the field that was found, whatever follows it
-  pub no-field : (first after : List ℕ) → isWhole first ≡ true → drop place bs ≡ first ++ after → (y : Year) (other : List ℕ) → Files y (take place bs ++ (first ++ other)) → ⊥
-  -- no valid return ends there, nor inside a field that is cut
-  pub no-end : (y : Year) → Files y bs → ⊥
-
 -- the place and the bytes on both sides of it
 module _ (bs front rest : List ℕ) (e : bs ≡ front ++ rest) where
   abbrev place : ℕ
@@ -101,11 +85,6 @@ module _ (bs front rest : List ℕ) (e : bs ≡ front ++ rest) where
   rest-is = ap (drop place) e ∙ drop-at front rest place at
 
 -- a reading that stops before a field does so whatever follows that field
-no-empty : (first other : List ℕ) → isWhole first ≡ true → first ++ other ≡ [] → ⊥
-unfolding isWhole
-no-empty [] other h e = let z : _≡_ {A = ℕ} 0 1 = cc in not-suc-le-zero {n = 0} (omega arith)
-no-empty (x ∷ first) other h e = let z : _≡_ {A = ℕ} 0 1 = cc in not-suc-le-zero {n = 0} (omega arith)
-
 moved-not : (first other : List ℕ) → isWhole first ≡ true → (r : Res Parts) (p : Parts) → moved r (first ++ other) ≡ got p [] → ⊥
 moved-not first other h (got q rest) p e = no-empty first other h cc
 moved-not first other h (stuck n rest) p e = let z : _≡_ {A = ℕ} 0 1 = cc in not-suc-le-zero {n = 0} (omega arith)
@@ -141,6 +120,7 @@ stands-at bs rest stop refusal s =
     let ri : drop (length bs - length rest) bs ≡ rest = rest-is bs (s .front) rest (s .is) in
     let stop-at : restOf (form .read (s .front ++ rest)) ≡ rest = ap (λ (l : List ℕ). restOf (form .read l)) (sym (s .is)) ∙ stop in
     record {
+      inside = omega arith;
       fields = w .fields;
       all-whole = w .whole;
       before = front-is bs (joined (w .fields)) rest wi;
@@ -192,3 +172,50 @@ stands bs place b h e =
     let n : length bs - length (restOf (form .read bs)) ≡ place = finish-place (length bs) (form .read bs) place (sym (short-reading bs h) ∙ e) in
     let s = stands-at bs (restOf (form .read bs)) refl (e ∙ ap refused (sym n)) (started bs b (form .read bs) refl) in
     subst (Stands bs) n s
+
+-- "A longer return is refused at place 8,192 before reading."
+pub longer-stands : (bs : List ℕ) → mostBytes < length bs → readingOf bs ≡ refused mostBytes
+unfolding readingOf
+longer-stands bs h = rw (lt-leb (length bs) mostBytes h)
+
+-- ---- no other place is the first wrong field
+-- at an earlier place the field found is whole, and a valid return goes on with it
+not-before : (bs : List ℕ) (p q : ℕ) → Stands bs p → Stands bs q → p < q → ⊥
+unfolding joined
+not-before bs p q s t h = by (r .more) (r .whole) (r .left)
+  where
+    between : List ℕ
+    between = take (q - p) (drop p bs)
+
+    behind : List ℕ
+    behind = drop (q - p) (drop p bs)
+
+    cut : take q bs ≡ take p bs ++ between
+    cut = let e : q ≡ p + (q - p) = omega arith in ap (λ (n : ℕ). take n bs) e ∙ take-add p (q - p) bs
+
+    some : length between ≡ q - p
+    some = length-take-le (q - p) (drop p bs) (rw (length-drop p bs) (omega (arith, t .inside)))
+
+    r : Further (s .fields) (t .fields) between
+    r = further (s .fields) (t .fields) between (s .all-whole) (t .all-whole) (ap (λ (m : List ℕ). m ++ between) (sym (s .before)) ∙ sym cut ∙ t .before)
+
+    by : (more : List (List ℕ)) → all isWhole more ≡ true → between ≡ joined more → ⊥
+    by [] w e = omega (arith, some, ap length e)
+    by (first ∷ more) w e =
+        let found-there : drop p bs ≡ first ++ (joined more ++ behind) =
+        sym (take-append-drop (q - p) (drop p bs)) ∙ ap (λ (m : List ℕ). m ++ behind) e ∙ append-assoc first (joined more) behind in
+        let goes-on : take q bs ++ t .more ≡ take p bs ++ (first ++ (joined more ++ t .more)) =
+        ap (λ (m : List ℕ). m ++ t .more) (cut ∙ ap (λ (m : List ℕ). take p bs ++ m) e) ∙ append-assoc (take p bs) (first ++ joined more) (t .more) ∙ ap (λ (m : List ℕ). take p bs ++ m) (append-assoc first (joined more) (t .more)) in
+        s .no-field first (joined more ++ behind) (and-left (isWhole first) (all isWhole more) w) found-there (t .year) (joined more ++ t .more) (subst (Files (t .year)) goes-on (t .begins))
+
+pub one-place : (bs : List ℕ) (p q : ℕ) → Stands bs p → Stands bs q → p ≡ q
+one-place bs p q s t = by (le-or-lt p q) (le-or-lt q p)
+  where
+    by : (p ≤ q) ⊎ (q < p) → (q ≤ p) ⊎ (p < q) → p ≡ q
+    by (inr h) k = absurd (not-before bs q p t s h)
+    by (inl h) (inr k) = absurd (not-before bs p q s t k)
+    by (inl h) (inl k) = omega arith
+
+-- the place beside a refused reading is the only such one
+pub stands-alone : (bs : List ℕ) → Bytes bs → length bs ≤ mostBytes → (place : ℕ) → readingOf bs ≡ refused place → (q : ℕ) → Stands bs q → q ≡ place
+stands-alone bs b h place e q s = one-place bs q place s (stands bs place b h e)

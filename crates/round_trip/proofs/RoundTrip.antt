@@ -72,7 +72,7 @@ module _ (y : Year) (row : length (y .lines) ≡ lineSlots) (slotted : length (y
 whole-not : (place : ℕ) (y : Year) → refused place ≡ whole y → ⊥
 whole-not place y e = let z : _≡_ {A = ℕ} 0 1 = cc in not-suc-le-zero {n = 0} (omega arith)
 
-same-year : (x y : Year) → whole x ≡ whole y → x ≡ y
+pub same-year : (x y : Year) → whole x ≡ whole y → x ≡ y
 same-year x y e = cc
 
 -- what a reading to the end found

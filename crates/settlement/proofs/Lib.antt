@@ -1,8 +1,7 @@
--- Laws of powers, of the growth table, of the gap and of payments; what a reader may rely on; the marked figures.
+-- Laws of powers, of the growth table, of the gap and of payments, and what a reader may rely on.
 pub mod Powers
 pub mod Growing
 pub mod Gaps
 pub mod Amounts
 pub mod Only
 pub mod Payments
-pub mod Figures

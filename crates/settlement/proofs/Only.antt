@@ -1,12 +1,12 @@
--- For each call no second answer fits, and its rows stand in the order of refusals. Assumes nothing.
-use mathlib.Core.Path.{_≡_, refl, sym, ap, _∙_}
+-- Each call answers and no second answer fits, and its rows stand in the order of refusals. Assumes nothing.
+use mathlib.Core.Path.{_≡_, refl, sym, _∙_}
+use mathlib.Core.Logic.{_⊎_, inl, inr}
 use mathlib.Core.Bool.{true}
 use Prim.Native.Nat.{ℕ}
-use native.Mathlib.Nat.{not-suc-le-zero}
-use native.Mathlib.Omega.{arith}
-use lib.IntN.{ℤ}
+use lib.IntN.{ℤ, pos, natAbs, _-ℤ_}
 use Rattle.refusals.specs.Refusals.{inTurn, standIn}
-use Rattle.refusals.proofs.Laws.{same-refusal, never-zero}
+use Rattle.refusals.specs.Answers.{One}
+use Rattle.refusals.proofs.Cases.{Refusing, Answers, same-case, one-case}
 use Rattle.settlement.specs.declared.medians.Period.{Period}
 use Rattle.settlement.specs.declared.medians.Gap.{Gap}
 use Rattle.settlement.specs.declared.medians.Gap.the-variants as gap
@@ -14,44 +14,83 @@ use Rattle.settlement.specs.declared.table.Growth.{Growth}
 use Rattle.settlement.specs.declared.table.Growth.the-variants as growth
 use Rattle.settlement.specs.declared.paying.Payment.{Payment}
 use Rattle.settlement.specs.declared.paying.Payment.the-variants as payment
-use Rattle.settlement.specs.Calls.{gapRows, gapNumber, gapFigure, growthRows, growthNumber, growthFigure, payRows, payNumber, payFigure, settleRows, reconcileRows, GapGives, GrowthGives, PayGives, SettleGives, ReconcileGives}
+use Rattle.settlement.specs.Gap.{daySum, hundredths}
+use Rattle.settlement.specs.Growth.{growthOf, paidOf}
+use Rattle.settlement.specs.Calls.{gapRows, gapNumber, gapFigure, GapGives, growthRows, growthNumber, growthFigure, GrowthGives, payRows, payNumber, payFigure, PayGives, settleRows, SettleGives, reconcileRows, ReconcileGives}
 
--- ---- the number and the figure determine the case
-pub same-gap : (r s : Gap) → gapNumber r ≡ gapNumber s → gapFigure r ≡ gapFigure s → r ≡ s
-same-gap (gap.Hundredths x) (gap.Hundredths y) n f = ap gap.Hundredths f
-same-gap (gap.Hundredths x) (gap.Refused why) n f = absurd (not-suc-le-zero {n = 0} (omega (arith, never-zero why)))
-same-gap (gap.Refused why) (gap.Hundredths y) n f = absurd (not-suc-le-zero {n = 0} (omega (arith, never-zero why)))
-same-gap (gap.Refused why) (gap.Refused other) n f = ap gap.Refused (same-refusal why other n)
+-- ---- the answers
+gap-cases : (r : Gap) → (r ≡ gap.Hundredths (gapFigure r)) ⊎ Refusing gap.Refused r
+gap-cases (gap.Hundredths n) = inl refl
+gap-cases (gap.Refused why) = inr (record { why = why; is = refl })
 
-pub same-growth : (r s : Growth) → growthNumber r ≡ growthNumber s → growthFigure r ≡ growthFigure s → r ≡ s
-same-growth (growth.Billionths x) (growth.Billionths y) n f = ap growth.Billionths f
-same-growth (growth.Billionths x) (growth.Refused why) n f = absurd (not-suc-le-zero {n = 0} (omega (arith, never-zero why)))
-same-growth (growth.Refused why) (growth.Billionths y) n f = absurd (not-suc-le-zero {n = 0} (omega (arith, never-zero why)))
-same-growth (growth.Refused why) (growth.Refused other) n f = ap growth.Refused (same-refusal why other n)
+pub gap-answers : Answers gapNumber gapFigure 0 gap.Hundredths gap.Refused
+gap-answers = record {
+  number-found = λ n. refl;
+  number-refused = λ why. refl;
+  figures-found = λ n. refl;
+  figures-refused = λ why. refl;
+  cases = gap-cases;
+}
 
-pub same-payment : (r s : Payment) → payNumber r ≡ payNumber s → payFigure r ≡ payFigure s → r ≡ s
-same-payment (payment.Pounds x) (payment.Pounds y) n f = ap payment.Pounds f
-same-payment (payment.Pounds x) (payment.Refused why) n f = absurd (not-suc-le-zero {n = 0} (omega (arith, never-zero why)))
-same-payment (payment.Refused why) (payment.Pounds y) n f = absurd (not-suc-le-zero {n = 0} (omega (arith, never-zero why)))
-same-payment (payment.Refused why) (payment.Refused other) n f = ap payment.Refused (same-refusal why other n)
+growth-cases : (r : Growth) → (r ≡ growth.Billionths (growthFigure r)) ⊎ Refusing growth.Refused r
+growth-cases (growth.Billionths e) = inl refl
+growth-cases (growth.Refused why) = inr (record { why = why; is = refl })
 
--- ---- no second result meets what a call promises
+pub growth-answers : Answers growthNumber growthFigure 0 growth.Billionths growth.Refused
+growth-answers = record {
+  number-found = λ e. refl;
+  number-refused = λ why. refl;
+  figures-found = λ e. refl;
+  figures-refused = λ why. refl;
+  cases = growth-cases;
+}
+
+payment-cases : (r : Payment) → (r ≡ payment.Pounds (payFigure r)) ⊎ Refusing payment.Refused r
+payment-cases (payment.Pounds z) = inl refl
+payment-cases (payment.Refused why) = inr (record { why = why; is = refl })
+
+pub payment-answers : Answers payNumber payFigure (pos 0) payment.Pounds payment.Refused
+payment-answers = record {
+  number-found = λ z. refl;
+  number-refused = λ why. refl;
+  figures-found = λ z. refl;
+  figures-refused = λ why. refl;
+  cases = payment-cases;
+}
+
+-- ---- the calls
 pub only-gap : (earlier later : Period) (r s : Gap) → GapGives earlier later r → GapGives earlier later s → r ≡ s
-only-gap earlier later r s p q = same-gap r s (p .0 ∙ sym (q .0)) (p .1 ∙ sym (q .1))
+only-gap earlier later r s p q = same-case gap-answers r s (p .0 ∙ sym (q .0)) (p .1 ∙ sym (q .1))
+
+pub one-gap : (earlier later : Period) → One (GapGives earlier later)
+one-gap earlier later = one-case gap-answers (gapRows earlier later) (natAbs (hundredths (daySum earlier) (daySum later)))
 
 pub only-growth : (n : ℕ) (r s : Growth) → GrowthGives n r → GrowthGives n s → r ≡ s
-only-growth n r s p q = same-growth r s (p .0 ∙ sym (q .0)) (p .1 ∙ sym (q .1))
+only-growth n r s p q = same-case growth-answers r s (p .0 ∙ sym (q .0)) (p .1 ∙ sym (q .1))
+
+pub one-growth : (n : ℕ) → One (GrowthGives n)
+one-growth n = one-case growth-answers (growthRows n) (growthOf n)
 
 pub only-pay : (amount : ℤ) (n : ℕ) (r s : Payment) → PayGives amount n r → PayGives amount n s → r ≡ s
-only-pay amount n r s p q = same-payment r s (p .0 ∙ sym (q .0)) (p .1 ∙ sym (q .1))
+only-pay amount n r s p q = same-case payment-answers r s (p .0 ∙ sym (q .0)) (p .1 ∙ sym (q .1))
+
+pub one-pay : (amount : ℤ) (n : ℕ) → One (PayGives amount n)
+one-pay amount n = one-case payment-answers (payRows amount n) (paidOf amount n)
 
 pub only-settle : (adjustment : ℤ) (measured settled : Period) (r s : Payment)
     → SettleGives adjustment measured settled r → SettleGives adjustment measured settled s → r ≡ s
-only-settle adjustment measured settled r s p q = same-payment r s (p .0 ∙ sym (q .0)) (p .1 ∙ sym (q .1))
+only-settle adjustment measured settled r s p q = same-case payment-answers r s (p .0 ∙ sym (q .0)) (p .1 ∙ sym (q .1))
+
+pub one-settle : (adjustment : ℤ) (measured settled : Period) → One (SettleGives adjustment measured settled)
+one-settle adjustment measured settled =
+    one-case payment-answers (settleRows adjustment measured settled) (paidOf adjustment (natAbs (hundredths (daySum measured) (daySum settled))))
 
 pub only-reconcile : (final provisional : ℤ) (settled reconciled : Period) (r s : Payment)
     → ReconcileGives final provisional settled reconciled r → ReconcileGives final provisional settled reconciled s → r ≡ s
-only-reconcile final provisional settled reconciled r s p q = same-payment r s (p .0 ∙ sym (q .0)) (p .1 ∙ sym (q .1))
+only-reconcile final provisional settled reconciled r s p q = same-case payment-answers r s (p .0 ∙ sym (q .0)) (p .1 ∙ sym (q .1))
+
+pub one-reconcile : (final provisional : ℤ) (settled reconciled : Period) → One (ReconcileGives final provisional settled reconciled)
+one-reconcile final provisional settled reconciled = one-settle (final -ℤ provisional) settled reconciled
 
 -- ---- each call's rows stand in the order of refusals
 pub gap-in-turn : (earlier later : Period) → standIn inTurn (gapRows earlier later) ≡ true

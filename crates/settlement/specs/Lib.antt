@@ -1,4 +1,5 @@
--- Settlement: the gap, the growth table, and what each call gives.
+-- Settlement: the gap, the growth table, what each call gives, and how near that is to the exact amount.
 pub mod Gap
 pub mod Growth
 pub mod Calls
+pub mod Exact

@@ -1,27 +1,56 @@
--- For writing a return no second answer fits, nor a second buffer, and its rows stand in the order of refusals. Assumes nothing.
-use mathlib.Core.Path.{_≡_, refl, sym, ap, _∙_}
-use mathlib.Core.Bool.{true}
+-- Writing a return is answered, no second answer fits nor a second buffer, and its rows stand in the order of refusals. Assumes nothing.
+use mathlib.Core.Path.{_≡_, refl, sym, _∙_}
+use mathlib.Core.Logic.{_⊎_, inl, inr}
+use mathlib.Core.Bool.{true, cond}
 use mathlib.Core.List.{List}
 use Prim.Native.Nat.{ℕ}
-use native.Mathlib.Nat.{not-suc-le-zero}
-use native.Mathlib.Omega.{arith}
-use Rattle.refusals.specs.Refusals.{inTurn, standIn}
-use Rattle.refusals.proofs.Laws.{same-refusal, never-zero}
+use lib.ListN.{length}
+use Rattle.refusals.specs.Refusals.{Rows, lowest, accepted, inTurn, standIn}
+use Rattle.refusals.specs.Answers.{One}
+use Rattle.refusals.proofs.Cases.{Refusing, Answers, same-case, one-case}
 use Rattle.year.specs.declared.Year.{Year}
-use Rattle.filing.specs.Return.{writeRows}
+use Rattle.filing.specs.Return.{returnOf, writeRows, writtenBuffer}
 use Rattle.writing.specs.declared.Written.{Written}
 use Rattle.writing.specs.declared.Written.the-variants.{Length, Refused}
 use Rattle.writing.specs.Written.{lengthFigure, writtenNumber, WriteGives}
 
--- the number and the length determine the case
-pub same-written : (r s : Written) → writtenNumber r ≡ writtenNumber s → lengthFigure r ≡ lengthFigure s → r ≡ s
-same-written (Length a) (Length b) n f = ap Length f
-same-written (Length a) (Refused why) n f = absurd (not-suc-le-zero {n = 0} (omega (arith, never-zero why)))
-same-written (Refused why) (Length b) n f = absurd (not-suc-le-zero {n = 0} (omega (arith, never-zero why)))
-same-written (Refused why) (Refused other) n f = ap Refused (same-refusal why other n)
+written-cases : (r : Written) → (r ≡ Length (lengthFigure r)) ⊎ Refusing Refused r
+written-cases (Length n) = inl refl
+written-cases (Refused why) = inr (record { why = why; is = refl })
+
+pub written-answers : Answers writtenNumber lengthFigure 0 Length Refused
+written-answers = record {
+  number-found = λ n. refl;
+  number-refused = λ why. refl;
+  figures-found = λ n. refl;
+  figures-refused = λ why. refl;
+  cases = written-cases;
+}
+
+-- an answer and a buffer
+abbrev pub Laid : Rows → ℕ → List ℕ → Written → List ℕ → Type 0
+Laid rows n buffer r o = (writtenNumber r ≡ lowest rows) × (lengthFigure r ≡ cond (accepted rows) n 0) × (o ≡ buffer)
+
+module _ (rows : Rows) (n : ℕ) (buffer : List ℕ) where
+  pub only-laid : (r s : Written) (o p : List ℕ) → Laid rows n buffer r o → Laid rows n buffer s p → (r ≡ s) × (o ≡ p)
+  only-laid r s o p a b = (same-case written-answers r s (a .0 ∙ sym (b .0)) (a .1 ∙ sym (b .1)), a .2 ∙ sym (b .2))
+
+  pub one-laid : One (λ (p : Written × List ℕ). Laid rows n buffer (p .0) (p .1))
+  one-laid =
+      let a = one-case written-answers rows n in
+      record {
+        result = (a .result, buffer);
+        meets = (a .meets .0, a .meets .1, refl);
+        alone = λ other h.
+            let e = only-laid (other .0) (a .result) (other .1) buffer h (a .meets .0, a .meets .1, refl) in
+            λ i. (e .0 i, e .1 i);
+      }
 
 pub only-write : (y : Year) (out : List ℕ) (r s : Written) (o p : List ℕ) → WriteGives y out r o → WriteGives y out s p → (r ≡ s) × (o ≡ p)
-only-write y out r s o p a b = (same-written r s (a .0 ∙ sym (b .0)) (a .1 ∙ sym (b .1)), a .2 ∙ sym (b .2))
+only-write y out r s o p a b = only-laid (writeRows y (length out)) (length (returnOf y)) (writtenBuffer y out) r s o p a b
+
+pub one-write : (y : Year) (out : List ℕ) → One (λ (p : Written × List ℕ). WriteGives y out (p .0) (p .1))
+one-write y out = one-laid (writeRows y (length out)) (length (returnOf y)) (writtenBuffer y out)
 
 pub write-in-turn : (y : Year) (room : ℕ) → standIn inTurn (writeRows y room) ≡ true
 write-in-turn y room = refl

@@ -1,0 +1,133 @@
+-- Demand 1 holds. Assumes nothing.
+use mathlib.Core.Path.{_≡_, refl, _∙_}
+use mathlib.Core.Bool.{false, cond}
+use mathlib.Core.List.{[], _++_}
+use Prim.Native.Nat.{ℕ, _≤_}
+use native.Mathlib.Nat.{not-suc-le-zero}
+use native.Mathlib.Omega.{arith}
+use lib.IntN.{pos, natAbs, _-ℤ_}
+use lib.ListN.{length, drop}
+use Rattle.refusals.specs.declared.Refusal.{Refusal}
+use Rattle.refusals.specs.declared.Refusal.the-variants.{BrokenLog, BadSpan, BadPower, SharedMinute, FullLog, NoSuchStart, BadStretch, BadBook, BadYear, FloorAboveCap, TooLarge, BadPeriod, Malformed, NoRoom}
+use Rattle.refusals.specs.Refusals.{numberOf, answerNumber}
+use Rattle.refusals.proofs.Laws.{same-refusal, beside-refused}
+use Rattle.calendar.specs.Years.{yearStart, yearEnd, yearRows, minutesNumber, firstFigure, endFigure}
+use Rattle.calendar.proofs.Only.{one-minutes}
+use Rattle.outage.specs.Log.{lastRegimeEnd, live, holding, filed, without, lostEnergy}
+use Rattle.outage.specs.Calls.{emptyRows, enterRows, cancelRows, lostRows, lostNumber, lostFigure}
+use Rattle.outage.proofs.Only.{one-empty, one-enter, one-cancel, one-lost}
+use Rattle.outage.proofs.Only as logs
+use Rattle.year.specs.Year.{freshYear}
+use Rattle.year.proofs.Only as years
+use Rattle.levels.specs.Availability.{availabilityIn, availabilityRows, availabilityNumber, availabilityFigure, meetsTarget, targetNumber, targetMet}
+use Rattle.levels.specs.Levels.{capLevel, floorOf, levelsRows, levelsNumber, capFigure, floorFigure}
+use Rattle.levels.proofs.Only.{one-availability, one-target, one-levels}
+use Rattle.revenue.specs.Revenue.{assessedRevenue, revenueRows, revenueNumber, revenueFigure}
+use Rattle.revenue.proofs.Only.{one-revenue}
+use Rattle.balances.specs.declared.assessing.Yearly.{Yearly}
+use Rattle.balances.specs.declared.assessing.Figures.{Figures}
+use Rattle.balances.specs.Assessment.{ARN, CLN, FLN, WPAN, figuresOf, noFigures, assessRows, assessNumber, assessFigures}
+use Rattle.balances.proofs.Only.{one-assess}
+use Rattle.assessment.specs.Period.{yearlyOf, periodRows}
+use Rattle.assessment.proofs.Only.{one-period}
+use Rattle.settlement.specs.Gap.{daySum, hundredths}
+use Rattle.settlement.specs.Growth.{growthOf, paidOf}
+use Rattle.settlement.specs.Calls.{gapRows, gapNumber, gapFigure, growthRows, growthNumber, growthFigure, payRows, payNumber, payFigure, settleRows}
+use Rattle.settlement.proofs.Only.{one-gap, one-growth, one-pay, one-settle, one-reconcile}
+use Rattle.filing.specs.Return.{Reading, whole, refused, readingOf, isRefused, placeIn, yearIn, returnOf, writeRows}
+use Rattle.reading.proofs.Only.{one-read}
+use Rattle.writing.specs.Written.{writtenNumber, lengthFigure}
+use Rattle.writing.proofs.Only.{one-write}
+use Rattle.refiling.specs.Refiled.{refileRows}
+use Rattle.refiling.proofs.Only.{one-refile}
+use Rattle.printout.proofs.Only.{one-print}
+use Rattle.demands.specs.Demand1.{Demand1}
+
+-- the figures of five years' amounts
+abbrev figures : Yearly → Figures
+figures y = figuresOf (ARN y 5) (CLN y 5) (FLN y 5) (WPAN y 5)
+
+numbers : (why : Refusal) → (1 ≤ numberOf why) × (numberOf why ≤ 14)
+numbers BrokenLog = omega arith
+numbers BadSpan = omega arith
+numbers BadPower = omega arith
+numbers SharedMinute = omega arith
+numbers FullLog = omega arith
+numbers NoSuchStart = omega arith
+numbers BadStretch = omega arith
+numbers BadBook = omega arith
+numbers BadYear = omega arith
+numbers FloorAboveCap = omega arith
+numbers TooLarge = omega arith
+numbers BadPeriod = omega arith
+numbers Malformed = omega arith
+numbers NoRoom = omega arith
+
+-- ---- a reading, by what it found
+refused-year : (x : Reading) (n : ℕ) → n ≡ cond (isRefused x) 13 0 → (n ≡ 0 → ⊥) → yearIn x ≡ freshYear
+refused-year (whole y) n e z = absurd (z e)
+refused-year (refused place) n e z = refl
+
+accepted-place : (x : Reading) (n : ℕ) → n ≡ cond (isRefused x) 13 0 → n ≡ 0 → placeIn x ≡ 0
+accepted-place (whole y) n e z = refl
+accepted-place (refused place) n e z = absurd (not-suc-le-zero {n = 0} (omega arith))
+
+pub demand-1 : Demand1
+demand-1 = record {
+  empty = one-empty;
+  check-log = logs.one-check;
+  enter = one-enter;
+  cancel = one-cancel;
+  lost = one-lost;
+  minutes = one-minutes;
+  check-year = years.one-check;
+  availability = one-availability;
+  target = one-target;
+  levels = one-levels;
+  revenue = one-revenue;
+  assess = one-assess;
+  period = one-period;
+  gap = one-gap;
+  growth = one-growth;
+  pay = one-pay;
+  settle = one-settle;
+  reconcile = one-reconcile;
+  read = one-read;
+  write = one-write;
+  refile = one-refile;
+  print = one-print;
+  numbered = numbers;
+  fixed = same-refusal;
+  enter-refused = λ l e r g n. beside-refused (enterRows l e) (answerNumber (r .answer)) (r .log) (holding (l .«regime_end») (filed e (live l))) l (g .0) (g .1) n;
+  cancel-refused = λ l start r g n. beside-refused (cancelRows l start) (answerNumber (r .answer)) (r .log) (holding (l .«regime_end») (without start (live l))) l (g .0) (g .1) n;
+  empty-refused = λ regimeEnd r g n. beside-refused (emptyRows regimeEnd) (answerNumber (r .answer)) (r .log) (holding regimeEnd []) (holding lastRegimeEnd []) (g .0) (g .1) n;
+  write-refused = λ y out r o g n. (
+    beside-refused (writeRows y (length out)) (writtenNumber r) o (returnOf y ++ drop (length (returnOf y)) out) out (g .0) (g .2) n,
+    beside-refused (writeRows y (length out)) (writtenNumber r) (lengthFigure r) (length (returnOf y)) 0 (g .0) (g .1) n,
+  );
+  refile-refused = λ bs out r o g n. (
+    beside-refused (refileRows bs (length out)) (writtenNumber r) o (bs ++ drop (length bs) out) out (g .0) (g .2) n,
+    beside-refused (refileRows bs (length out)) (writtenNumber r) (lengthFigure r) (length bs) 0 (g .0) (g .1) n,
+  );
+  lost-refused = λ l a b r g n. beside-refused (lostRows l a b) (lostNumber r) (lostFigure r) (lostEnergy a b (live l)) 0 (g .0) (g .1) n;
+  minutes-refused = λ number regimeEnd r g n. (
+    beside-refused (yearRows number) (minutesNumber r) (firstFigure r) (yearStart number) 0 (g .0) (g .1) n,
+    beside-refused (yearRows number) (minutesNumber r) (endFigure r) (yearEnd number regimeEnd) 0 (g .0) (g .2) n,
+  );
+  availability-refused = λ book l number r g n. beside-refused (availabilityRows book l number) (availabilityNumber r) (availabilityFigure r) (availabilityIn l number) 0 (g .0) (g .1) n;
+  target-refused = λ book l number r g n. beside-refused (availabilityRows book l number) (targetNumber r) (targetMet r) (meetsTarget book l number) false (g .0) (g .1) n;
+  levels-refused = λ book y l r g n. (
+    beside-refused (levelsRows book y l) (levelsNumber r) (capFigure r) (capLevel book y) (pos 0) (g .0) (g .1) n,
+    beside-refused (levelsRows book y l) (levelsNumber r) (floorFigure r) (floorOf book y l) (pos 0) (g .0) (g .2) n,
+  );
+  revenue-refused = λ y r g n. beside-refused (revenueRows y) (revenueNumber r) (revenueFigure r) (assessedRevenue y) (pos 0) (g .0) (g .1) n;
+  assess-refused = λ y r g n. beside-refused (assessRows y) (assessNumber r) (assessFigures r) (figures y) noFigures (g .0) (g .1) n;
+  period-refused = λ book years l r g n. beside-refused (periodRows book years l) (assessNumber r) (assessFigures r) (figures (yearlyOf book years l)) noFigures (g .0) (g .1) n;
+  gap-refused = λ earlier later r g n. beside-refused (gapRows earlier later) (gapNumber r) (gapFigure r) (natAbs (hundredths (daySum earlier) (daySum later))) 0 (g .0) (g .1) n;
+  growth-refused = λ k r g n. beside-refused (growthRows k) (growthNumber r) (growthFigure r) (growthOf k) 0 (g .0) (g .1) n;
+  pay-refused = λ amount k r g n. beside-refused (payRows amount k) (payNumber r) (payFigure r) (paidOf amount k) (pos 0) (g .0) (g .1) n;
+  settle-refused = λ adjustment a b r g n. beside-refused (settleRows adjustment a b) (payNumber r) (payFigure r) (paidOf adjustment (natAbs (hundredths (daySum a) (daySum b)))) (pos 0) (g .0) (g .1) n;
+  reconcile-refused = λ final provisional a b r g n. beside-refused (settleRows (final -ℤ provisional) a b) (payNumber r) (payFigure r) (paidOf (final -ℤ provisional) (natAbs (hundredths (daySum a) (daySum b)))) (pos 0) (g .0) (g .1) n;
+  read-refused = λ bs r g n. g .2 ∙ refused-year (readingOf bs) (answerNumber (r .answer)) (g .0) n;
+  read-accepted = λ bs r g n. g .1 ∙ accepted-place (readingOf bs) (answerNumber (r .answer)) (g .0) n;
+}

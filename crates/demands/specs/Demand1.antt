@@ -1,0 +1,100 @@
+-- Demand 1. Every public call ends with an answer on every input, a broken log or a cut-off return too. It checks what it is handed. A
+-- refused call has a fixed number, gives back the log it got, and writes no byte to a lent buffer.
+-- That a call ends is proved of its code; what it may then answer is said here, by what it promises.
+use mathlib.Core.Path.{_≡_}
+use mathlib.Core.Bool.{false}
+use mathlib.Core.List.{List, []}
+use Prim.Native.Nat.{ℕ, _≤_}
+use lib.IntN.{ℤ, pos}
+use Rattle.refusals.specs.declared.Refusal.{Refusal}
+use Rattle.refusals.specs.Refusals.{numberOf, answerNumber}
+use Rattle.refusals.specs.Answers.{One}
+use Rattle.calendar.specs.declared.YearMinutes.{YearMinutes}
+use Rattle.calendar.specs.Years.{minutesNumber, firstFigure, endFigure, MinutesGives}
+use Rattle.outage.specs.declared.Entry.{Entry}
+use Rattle.outage.specs.declared.Log.{Log}
+use Rattle.outage.specs.declared.Logged.{Logged}
+use Rattle.outage.specs.declared.losing.LostEnergy.{LostEnergy}
+use Rattle.outage.specs.Log.{lastRegimeEnd, holding}
+use Rattle.outage.specs.Calls.{EmptyGives, EnterGives, CancelGives, lostNumber, lostFigure, LostGives}
+use Rattle.outage.specs.Calls as logs
+use Rattle.year.specs.declared.Year.{Year}
+use Rattle.year.specs.Year.{freshYear}
+use Rattle.year.specs.Year as years
+use Rattle.levels.specs.declared.Book.{Book}
+use Rattle.levels.specs.declared.measuring.Availability.{Availability}
+use Rattle.levels.specs.declared.measuring.Target.{Target}
+use Rattle.levels.specs.declared.levelling.Levels.{Levels}
+use Rattle.levels.specs.Availability.{availabilityNumber, availabilityFigure, AvailabilityGives, targetNumber, targetMet, TargetGives}
+use Rattle.levels.specs.Levels.{levelsNumber, capFigure, floorFigure, LevelsGives}
+use Rattle.revenue.specs.declared.Revenue.{Revenue}
+use Rattle.revenue.specs.Revenue.{revenueNumber, revenueFigure, RevenueGives}
+use Rattle.balances.specs.declared.assessing.Yearly.{Yearly}
+use Rattle.balances.specs.declared.assessing.Assessment.{Assessment}
+use Rattle.balances.specs.Assessment.{noFigures, assessNumber, assessFigures, AssessGives}
+use Rattle.assessment.specs.Period.{PeriodGives}
+use Rattle.settlement.specs.declared.medians.Period.{Period}
+use Rattle.settlement.specs.declared.medians.Gap.{Gap}
+use Rattle.settlement.specs.declared.table.Growth.{Growth}
+use Rattle.settlement.specs.declared.paying.Payment.{Payment}
+use Rattle.settlement.specs.Calls.{gapNumber, gapFigure, GapGives, growthNumber, growthFigure, GrowthGives, payNumber, payFigure, PayGives, SettleGives, ReconcileGives}
+use Rattle.codec.specs.Numbers.{Bytes}
+use Rattle.filing.specs.declared.Return.{Return}
+use Rattle.reading.specs.Reading.{ReturnGives}
+use Rattle.writing.specs.declared.Written.{Written}
+use Rattle.writing.specs.Written.{writtenNumber, lengthFigure, WriteGives}
+use Rattle.refiling.specs.Refiled.{RefileGives}
+use Rattle.printout.specs.Printout.{PrintGives}
+
+pub record Demand1 : Type 0 where
+  -- ---- each call answers on every input, and in one way
+  pub empty : (regimeEnd : ℕ) → One (EmptyGives regimeEnd)
+  pub check-log : (log : Log) → One (logs.CheckGives log)
+  pub enter : (log : Log) (e : Entry) → One (EnterGives log e)
+  pub cancel : (log : Log) (start : ℕ) → One (CancelGives log start)
+  pub lost : (log : Log) (a b : ℕ) → One (LostGives log a b)
+  pub minutes : (number regimeEnd : ℕ) → One (MinutesGives number regimeEnd)
+  pub check-year : (y : Year) → One (years.CheckGives y)
+  pub availability : (book : Book) (log : Log) (number : ℕ) → One (AvailabilityGives book log number)
+  pub target : (book : Book) (log : Log) (number : ℕ) → One (TargetGives book log number)
+  pub levels : (book : Book) (y : Year) (log : Log) → One (LevelsGives book y log)
+  pub revenue : (y : Year) → One (RevenueGives y)
+  pub assess : (y : Yearly) → One (AssessGives y)
+  pub period : (book : Book) (years : List Year) (log : Log) → One (PeriodGives book years log)
+  pub gap : (earlier later : Period) → One (GapGives earlier later)
+  pub growth : (n : ℕ) → One (GrowthGives n)
+  pub pay : (amount : ℤ) (n : ℕ) → One (PayGives amount n)
+  pub settle : (adjustment : ℤ) (measured settled : Period) → One (SettleGives adjustment measured settled)
+  pub reconcile : (final provisional : ℤ) (settled reconciled : Period) → One (ReconcileGives final provisional settled reconciled)
+  pub read : (bs : List ℕ) → One (ReturnGives bs)
+  pub write : (y : Year) (out : List ℕ) → One (λ (p : Written × List ℕ). WriteGives y out (p .0) (p .1))
+  pub refile : (bs out : List ℕ) → One (λ (p : Written × List ℕ). RefileGives bs out (p .0) (p .1))
+  pub print : (bs : List ℕ) → Bytes bs → One (PrintGives bs)
+  -- ---- "A refused call has a fixed number": 1 to 14, each for one refusal
+  pub numbered : (why : Refusal) → (1 ≤ numberOf why) × (numberOf why ≤ 14)
+  pub fixed : (why other : Refusal) → numberOf why ≡ numberOf other → why ≡ other
+  -- ---- "gives back the log it got", to the last slot
+  pub enter-refused : (log : Log) (e : Entry) (r : Logged) → EnterGives log e r → (answerNumber (r .answer) ≡ 0 → ⊥) → r .log ≡ log
+  pub cancel-refused : (log : Log) (start : ℕ) (r : Logged) → CancelGives log start r → (answerNumber (r .answer) ≡ 0 → ⊥) → r .log ≡ log
+  -- where it was handed none, the empty log to 13,632,480
+  pub empty-refused : (regimeEnd : ℕ) (r : Logged) → EmptyGives regimeEnd r → (answerNumber (r .answer) ≡ 0 → ⊥) → r .log ≡ holding lastRegimeEnd []
+  -- ---- "writes no byte to a lent buffer"; the length is 0
+  pub write-refused : (y : Year) (out : List ℕ) (r : Written) (o : List ℕ) → WriteGives y out r o → (writtenNumber r ≡ 0 → ⊥) → (o ≡ out) × (lengthFigure r ≡ 0)
+  pub refile-refused : (bs out : List ℕ) (r : Written) (o : List ℕ) → RefileGives bs out r o → (writtenNumber r ≡ 0 → ⊥) → (o ≡ out) × (lengthFigure r ≡ 0)
+  -- ---- beside a refusal figures are 0
+  pub lost-refused : (log : Log) (a b : ℕ) (r : LostEnergy) → LostGives log a b r → (lostNumber r ≡ 0 → ⊥) → lostFigure r ≡ 0
+  pub minutes-refused : (number regimeEnd : ℕ) (r : YearMinutes) → MinutesGives number regimeEnd r → (minutesNumber r ≡ 0 → ⊥) → (firstFigure r ≡ 0) × (endFigure r ≡ 0)
+  pub availability-refused : (book : Book) (log : Log) (number : ℕ) (r : Availability) → AvailabilityGives book log number r → (availabilityNumber r ≡ 0 → ⊥) → availabilityFigure r ≡ 0
+  pub target-refused : (book : Book) (log : Log) (number : ℕ) (r : Target) → TargetGives book log number r → (targetNumber r ≡ 0 → ⊥) → targetMet r ≡ false
+  pub levels-refused : (book : Book) (y : Year) (log : Log) (r : Levels) → LevelsGives book y log r → (levelsNumber r ≡ 0 → ⊥) → (capFigure r ≡ pos 0) × (floorFigure r ≡ pos 0)
+  pub revenue-refused : (y : Year) (r : Revenue) → RevenueGives y r → (revenueNumber r ≡ 0 → ⊥) → revenueFigure r ≡ pos 0
+  pub assess-refused : (y : Yearly) (r : Assessment) → AssessGives y r → (assessNumber r ≡ 0 → ⊥) → assessFigures r ≡ noFigures
+  pub period-refused : (book : Book) (years : List Year) (log : Log) (r : Assessment) → PeriodGives book years log r → (assessNumber r ≡ 0 → ⊥) → assessFigures r ≡ noFigures
+  pub gap-refused : (earlier later : Period) (r : Gap) → GapGives earlier later r → (gapNumber r ≡ 0 → ⊥) → gapFigure r ≡ 0
+  pub growth-refused : (n : ℕ) (r : Growth) → GrowthGives n r → (growthNumber r ≡ 0 → ⊥) → growthFigure r ≡ 0
+  pub pay-refused : (amount : ℤ) (n : ℕ) (r : Payment) → PayGives amount n r → (payNumber r ≡ 0 → ⊥) → payFigure r ≡ pos 0
+  pub settle-refused : (adjustment : ℤ) (measured settled : Period) (r : Payment) → SettleGives adjustment measured settled r → (payNumber r ≡ 0 → ⊥) → payFigure r ≡ pos 0
+  pub reconcile-refused : (final provisional : ℤ) (settled reconciled : Period) (r : Payment) → ReconcileGives final provisional settled reconciled r → (payNumber r ≡ 0 → ⊥) → payFigure r ≡ pos 0
+  -- a refused reading gives a fresh year, and an accepted one the place 0
+  pub read-refused : (bs : List ℕ) (r : Return) → ReturnGives bs r → (answerNumber (r .answer) ≡ 0 → ⊥) → r .year ≡ freshYear
+  pub read-accepted : (bs : List ℕ) (r : Return) → ReturnGives bs r → answerNumber (r .answer) ≡ 0 → r .place ≡ 0

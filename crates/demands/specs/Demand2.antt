@@ -1,0 +1,154 @@
+-- Demand 2. Levels, assessed revenue, carried balances, adjustment, settlement and reconciliation equal the published licence formulas and
+-- methodology, simplified and rounded only as document 01 says. A return that is read and written again gives its own bytes, and a valid
+-- year that is written reads back as itself.
+-- Each part speaks of results that meet what the calls promise.
+use mathlib.Core.Path.{_≡_}
+use mathlib.Core.Bool.{true}
+use mathlib.Core.List.{List, _++_}
+use Prim.Native.Nat.{ℕ, suc, _+_, _-_, _*_, _/_, _^_, _≤_, _<_}
+use lib.Dec.{leb}
+use lib.ListN.{length, getD, take, drop}
+use lib.IntN.{ℤ, pos, natAbs, _+ℤ_, _-ℤ_, _*ℤ_}
+use Rattle.lists.specs.Lists.{all}
+use Rattle.refusals.specs.Refusals.{answerNumber}
+use Rattle.refusals.specs.declared.Answer.the-variants.{Done}
+use Rattle.money.specs.Rounding.{onMagnitude}
+use Rattle.calendar.specs.declared.YearMinutes.{YearMinutes}
+use Rattle.calendar.specs.Years.{firstFigure, endFigure, MinutesGives}
+use Rattle.outage.specs.declared.Log.{Log}
+use Rattle.outage.specs.declared.losing.LostEnergy.{LostEnergy}
+use Rattle.outage.specs.Log.{slots, mostMw}
+use Rattle.outage.specs.Calls.{lostFigure, LostGives}
+use Rattle.year.specs.declared.Year.{Year}
+use Rattle.year.specs.Year.{lineSlots}
+use Rattle.levels.specs.declared.Book.{Book}
+use Rattle.levels.specs.declared.measuring.Availability.{Availability}
+use Rattle.levels.specs.declared.measuring.Target.{Target}
+use Rattle.levels.specs.declared.levelling.Levels.{Levels}
+use Rattle.levels.specs.Book.{targetOf}
+use Rattle.levels.specs.Availability.{availabilityNumber, availabilityFigure, AvailabilityGives, targetNumber, targetMet, TargetGives}
+use Rattle.levels.specs.Levels.{timesOf, aifOf, levelsNumber, capFigure, floorFigure, LevelsGives}
+use Rattle.revenue.specs.declared.Revenue.{Revenue}
+use Rattle.revenue.specs.Revenue.{GCR, MRC, IAT, revenueNumber, revenueFigure, RevenueGives}
+use Rattle.balances.specs.declared.assessing.Yearly.{Yearly}
+use Rattle.balances.specs.declared.assessing.Figures.{Figures}
+use Rattle.balances.specs.declared.assessing.Assessment.{Assessment}
+use Rattle.balances.specs.Balance.{carryOf, balanceAfter}
+use Rattle.balances.specs.Assessment.{heldBetween, CFA, assessNumber, assessFigures, AssessGives}
+use Rattle.balances.specs.NetPresent.{netPresent, exactBalance, FiveUplifts, Near}
+use Rattle.assessment.specs.Period.{yearlyOf, PeriodGives}
+use Rattle.settlement.specs.declared.medians.Period.{Period}
+use Rattle.settlement.specs.declared.medians.Gap.{Gap}
+use Rattle.settlement.specs.declared.table.Growth.{Growth}
+use Rattle.settlement.specs.declared.paying.Payment.{Payment}
+use Rattle.settlement.specs.Gap.{daySum, hundredths}
+use Rattle.settlement.specs.Exact.{NearExact}
+use Rattle.settlement.specs.Calls.{gapNumber, gapFigure, GapGives, growthNumber, growthFigure, GrowthGives, payNumber, payFigure, PayGives, SettleGives, ReconcileGives}
+use Rattle.codec.specs.Numbers.{Bytes}
+use Rattle.codec.specs.Fields.{isWhole, joined}
+use Rattle.filing.specs.declared.Return.{Return}
+use Rattle.filing.specs.Return.{mostBytes}
+use Rattle.round_trip.specs.Flat.{fieldsOf, Ordered}
+use Rattle.round_trip.specs.Places.{Files, Filed, Stands}
+use Rattle.reading.specs.Reading.{ReturnGives}
+use Rattle.writing.specs.declared.Written.{Written}
+use Rattle.writing.specs.declared.Written.the-variants.{Length}
+use Rattle.writing.specs.Written.{writtenNumber, WriteGives}
+use Rattle.refiling.specs.Refiled.{RefileGives}
+
+-- ---- what the figures of an assessment are
+-- the balances after five years of the recursion of document 01 (SC3 9, 11, 12, 13), T, and the adjustment
+pub record Carried (y : Yearly) (f : Figures) : Type 0 where
+  pub revenue : f .revenue ≡ balanceAfter (y .index) (y .revenue) 4
+  pub cap : f .cap ≡ balanceAfter (y .index) (y .cap) 4
+  pub floor : f .floor ≡ balanceAfter (y .index) (y .floor) 4
+  pub within : f .within ≡ balanceAfter (y .index) (y .within) 4
+  pub held : f .held ≡ heldBetween (f .revenue) (f .floor) (f .cap)
+  pub adjustment : f .adjustment ≡ f .held -ℤ f .revenue -ℤ f .within
+
+-- each within half a pound for each rounding, with the uplifts after it, of the licence's sum of amounts times uplifts
+pub record NearSums (y : Yearly) (f : Figures) : Type 0 where
+  pub revenue : Near (f .revenue) (y .index) (y .revenue) 4
+  pub cap : Near (f .cap) (y .index) (y .cap) 4
+  pub floor : Near (f .floor) (y .index) (y .floor) 4
+  pub within : Near (f .within) (y .index) (y .within) 4
+
+-- SC3 4 by its four cases
+abbrev pub IsCFA : Figures → Type 0
+IsCFA f = f .adjustment ≡ CFA (f .revenue) (f .cap) (f .floor) (f .within)
+
+pub record Demand2 : Type 0 where
+  -- ---- levels
+  -- SC4 18: what is available and what is lost make rated capacity times the year's minutes
+  pub availability : (book : Book) (log : Log) (number : ℕ) (r : Availability) → AvailabilityGives book log number r → availabilityNumber r ≡ 0
+      → (y : YearMinutes) → MinutesGives number (log .«regime_end») y → (l : LostEnergy) → LostGives log (firstFigure y) (endFigure y) l
+      → availabilityFigure r + lostFigure l ≡ mostMw * (endFigure y - firstFigure y)
+  -- SC4 12, 16: the target is met where 60 times it is at most the availability
+  pub target : (book : Book) (log : Log) (number : ℕ) (r : Target) → TargetGives book log number r → targetNumber r ≡ 0
+      → (a : Availability) → AvailabilityGives book log number a → targetMet r ≡ leb (60 * targetOf book number) (availabilityFigure a)
+  -- SC2 4(a): PYC x (PCL + PCAC + ORAC) x AIC x PPPI, rounded after each product
+  pub cap : (book : Book) (y : Year) (log : Log) (r : Levels) → LevelsGives book y log r → levelsNumber r ≡ 0
+      → capFigure r ≡ timesOf (timesOf (timesOf (book .pcl +ℤ book .pcac +ℤ book .orac) (y .pyc)) (y .aic)) (y .pppi)
+  -- SC2 4(b): PYF x (PFL + PCAF + ORAF) x AIF x PPPI, with AIF by what the target is answered
+  pub floor : (book : Book) (y : Year) (log : Log) (r : Levels) → LevelsGives book y log r → levelsNumber r ≡ 0
+      → (t : Target) → TargetGives book log (y .number) t
+      → floorFigure r ≡ timesOf (timesOf (timesOf (book .pfl +ℤ book .pcaf +ℤ book .oraf) (y .pyf)) (aifOf (targetMet t) (y .exceptional) (book .«miss_factor»))) (y .pppi)
+  -- ---- assessed revenue: SC5 3 and SC7 27, of the lines that are counted
+  pub revenue : (y : Year) (r : Revenue) → RevenueGives y r → revenueNumber r ≡ 0
+      → revenueFigure r
+      ≡ GCR (y .rate) (take (y .«line_count») (y .lines)) -ℤ MRC (y .rate) (take (y .«line_count») (y .lines)) -ℤ IAT (y .rate) (take (y .«line_count») (y .lines))
+  -- ---- carried balances
+  -- a balance starts as year one's amount; each later one is the earlier one carried, and the year's amount
+  pub starts : (index : List ℕ) (amounts : List ℤ) → balanceAfter index amounts 0 ≡ getD amounts 0 (pos 0)
+  pub goes-on : (n : ℕ) (index : List ℕ) (amounts : List ℤ)
+      → balanceAfter index amounts (suc n) ≡ carryOf (balanceAfter index amounts n) (getD index n 0) (getD index (suc n) 0) +ℤ getD amounts (suc n) (pos 0)
+  pub carried : (y : Yearly) (r : Assessment) → AssessGives y r → assessNumber r ≡ 0 → Carried y (assessFigures r)
+  -- SC3 9, 11 to 13, 16: without rounding the recursion is the licence's sum of amounts times products of uplifts, over any number of years
+  pub exact : (index : List ℕ) (amounts : List ℤ) (n : ℕ) → exactBalance index amounts n ≡ netPresent index amounts n
+  pub uplifts : (factor : ℕ → ℕ) → FiveUplifts factor
+  -- with rounding each balance is near it
+  pub near : (y : Yearly) (r : Assessment) → AssessGives y r → assessNumber r ≡ 0 → NearSums y (assessFigures r)
+  -- ---- the adjustment, of five rows of amounts and of a period, which is assessed as its yearly amounts are
+  pub adjustment : (y : Yearly) (r : Assessment) → AssessGives y r → assessNumber r ≡ 0 → IsCFA (assessFigures r)
+  pub period : (book : Book) (years : List Year) (log : Log) (r : Assessment) → length years ≡ 5 → PeriodGives book years log r → assessNumber r ≡ 0
+      → AssessGives (yearlyOf book years log) r × IsCFA (assessFigures r)
+  -- ---- settlement and reconciliation
+  -- 001, tables 1 and 2: n is that of the two medians, nearer to 200g/1,461 than a half, and no other whole number is as near; g of either sign
+  pub gap : (earlier later : Period) (r : Gap) → GapGives earlier later r → gapNumber r ≡ 0 → pos (gapFigure r) ≡ hundredths (daySum earlier) (daySum later)
+  pub no-half : (g k : ℤ) → g *ℤ pos 400 ≡ (k *ℤ pos 2 +ℤ pos 1) *ℤ pos 1461 → ⊥
+  pub nearest : (earlier later : ℕ) → 2 * natAbs (hundredths earlier later *ℤ pos 1461 -ℤ (pos later -ℤ pos earlier) *ℤ pos 200) < 1461
+  pub only-nearest : (earlier later : ℕ) (z : ℤ) → 2 * natAbs (z *ℤ pos 1461 -ℤ (pos later -ℤ pos earlier) *ℤ pos 200) ≤ 1461 → z ≡ hundredths earlier later
+  -- an entry is the greatest e with e^100 x 10,000^n at most 10^900 x 10,388^n
+  pub growth : (n : ℕ) (r : Growth) → GrowthGives n r → growthNumber r ≡ 0
+      → (growthFigure r ^ 100 * 10000 ^ n ≤ 10 ^ 900 * 10388 ^ n) × ((e : ℕ) → e ^ 100 * 10000 ^ n ≤ 10 ^ 900 * 10388 ^ n → e ≤ growthFigure r)
+  -- a payment is the magnitude x entry / 10^9 rounded down, sign restored, and near the exact amount
+  pub payment : (amount : ℤ) (n : ℕ) (r : Payment) → PayGives amount n r → payNumber r ≡ 0 → (g : Growth) → GrowthGives n g
+      → payFigure r ≡ onMagnitude (λ (m : ℕ). m * growthFigure g / 1000000000) amount
+  pub payment-near : (amount : ℤ) (n : ℕ) (r : Payment) → PayGives amount n r → payNumber r ≡ 0 → NearExact (natAbs amount) n (natAbs (payFigure r))
+  -- 001, equation 1: an adjustment is paid over the gap of the two periods
+  pub settled : (adjustment : ℤ) (measured settled : Period) (r : Payment) → SettleGives adjustment measured settled r → payNumber r ≡ 0
+      → (g : Gap) → GapGives measured settled g → PayGives adjustment (gapFigure g) r
+  -- 001, equation 2: what is final less what was provisional, over the later gap
+  pub reconciled : (final provisional : ℤ) (settled reconciled : Period) (r : Payment)
+      → ReconcileGives final provisional settled reconciled r → SettleGives (final -ℤ provisional) settled reconciled r
+  -- ---- "a valid year that is written reads back as itself": a year, with its 64 line slots and 400 entry slots, that was written
+  pub written-read : (y : Year) → length (y .lines) ≡ lineSlots → length (y .log .entries) ≡ slots → (out o : List ℕ) (n : ℕ) → WriteGives y out (Length n) o
+      → (t : Return) → ReturnGives (take n o) t → t ≡ record { answer = Done; place = 0; year = y }
+  -- ---- "A return that is read and written again gives its own bytes", by two calls and by one
+  pub read-written : (bs : List ℕ) → Bytes bs → (t : Return) → ReturnGives bs t → t .answer ≡ Done
+      → (out o : List ℕ) (r : Written) → WriteGives (t .year) out r o → length bs ≤ length out → (r ≡ Length (length bs)) × (o ≡ bs ++ drop (length bs) out)
+  pub refiled : (bs out : List ℕ) (r : Written) (o : List ℕ) → RefileGives bs out r o → writtenNumber r ≡ 0 → (r ≡ Length (length bs)) × (o ≡ bs ++ drop (length bs) out)
+  -- ---- a return is accepted exactly where some valid year has these bytes, and one year alone has them
+  pub is-return : (bs : List ℕ) → Bytes bs → (t : Return) → ReturnGives bs t → (answerNumber (t .answer) ≡ 0 → Filed bs) × (Filed bs → answerNumber (t .answer) ≡ 0)
+  pub same-bytes : (x y : Year) (bs : List ℕ) → Files x bs → Files y bs → x ≡ y
+  -- what is written is the year's fields, one after the other
+  pub flat : (y : Year) (out : List ℕ) (r : Written) (o : List ℕ) → WriteGives y out r o → writtenNumber r ≡ 0
+      → o ≡ joined (fieldsOf y) ++ drop (length (joined (fieldsOf y))) out
+  -- in an accepted return tags ascend and only 06 and 07 repeat
+  pub tags : (bs : List ℕ) → Bytes bs → (t : Return) → ReturnGives bs t → answerNumber (t .answer) ≡ 0
+      → (fields : List (List ℕ)) → all isWhole fields ≡ true → bs ≡ joined fields → Ordered fields
+  -- ---- the place of a refused return: the one at which it stands, or 8,192 where it is longer
+  pub place : (bs : List ℕ) → Bytes bs → (t : Return) → ReturnGives bs t → (answerNumber (t .answer) ≡ 0 → ⊥) → length bs ≤ mostBytes
+      → Stands bs (t .place) × ((other : ℕ) → Stands bs other → other ≡ t .place)
+  pub one-place : (bs : List ℕ) (place other : ℕ) → Stands bs place → Stands bs other → place ≡ other
+  pub longer : (bs : List ℕ) (t : Return) → ReturnGives bs t → mostBytes < length bs → (answerNumber (t .answer) ≡ 13) × (t .place ≡ mostBytes)

@@ -1,0 +1,3 @@
+-- A year's return written field after field, and where a refusal stands.
+pub mod Flat
+pub mod Places
