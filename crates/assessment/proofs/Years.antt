@@ -26,7 +26,7 @@ use Rattle.levels.specs.Levels.{capLevel, floorOf}
 use Rattle.revenue.specs.Revenue.{assessedRevenue}
 use Rattle.balances.specs.declared.assessing.Yearly.{Yearly}
 use Rattle.assessment.specs.declared.Row.{Row}
-use Rattle.assessment.specs.Period.{numbersFrom, startsPeriod, yearsGood, goodFrom, yearlyOf, yearFits, rowOf, noRow, noAmounts, withRow}
+use Rattle.assessment.specs.Period.{numbersFrom, startsPeriod, yearsGood, goodFrom, yearlyOf, yearFits, rowOf, noRow, withRow}
 
 -- what stands for a year past the end of a list
 abbrev pub noYear : Year
@@ -118,9 +118,6 @@ module _ (book : Book) (years : List Year) (log : Log) where
     floor = take k (map (λ (y : Year). floorOf book y log) years) ++ drop k (replicate 5 (pos 0));
     within = take k (map (λ (y : Year). y .within) years) ++ drop k (replicate 5 (pos 0));
   }
-
-  pub turned-start : turned 0 ≡ noAmounts
-  turned-start = refl
 
   module _ (len : length years ≡ 5) where
     cell : {B : Type 0} (f : Year → B) (e : B) (k : ℕ) (d : Year) → k < 5

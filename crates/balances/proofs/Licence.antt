@@ -1,23 +1,17 @@
 -- What an assessment gives, in the licence's words: document 000, SC3. Assumes nothing.
 use mathlib.Core.Path.{_≡_, refl, sym, ap, _∙_}
-use mathlib.Core.Bool.{Bool, true, false, not, cond, _&&_}
+use mathlib.Core.Bool.{Bool, true, false, not, cond}
 use mathlib.Core.List.{List}
-use Prim.Native.Nat.{ℕ, zero, suc, _≤_}
+use Prim.Native.Nat.{ℕ, zero, suc}
 use native.Mathlib.Nat.{not-suc-le-zero, suc-ne-zero}
 use native.Mathlib.Omega.{arith}
 use lib.ListN.{getD}
 use lib.IntN.{ℤ, pos, negsuc, negℤ, natAbs, _+ℤ_, _-ℤ_}
 use lib.Signed.{ltZ}
-use borrow.Author.Tests.{eq-eqb, ne-eqb}
-use Rattle.lists.proofs.Tests.{and-left, and-right, not-no}
-use Rattle.refusals.specs.Refusals.{lowest}
-use Rattle.refusals.proofs.Laws.{all-clear}
+use borrow.Author.Tests.{ne-eqb}
 use Rattle.money.proofs.Parts.{over, under, diff, neg-over, neg-under, abs, from-lt, from-ge, to-eq}
-use Rattle.balances.specs.declared.assessing.Yearly.{Yearly}
-use Rattle.balances.specs.Balance.{carryOf, balanceAfter, mostBalance, laterWithin}
-use Rattle.balances.specs.Assessment.{goodYearly, ARN, CLN, FLN, WPAN, balancesWithin, heldBetween, figuresOf, noFigures, assessRows, assessGiven, RRAC, RRAF, isNone, CFA}
-use Rattle.balances.proofs.Ranges.{good-parts}
-use Rattle.balances.proofs.Years.{years-small}
+use Rattle.balances.specs.Balance.{carryOf, balanceAfter}
+use Rattle.balances.specs.Assessment.{heldBetween, RRAC, RRAF, isNone, CFA}
 
 -- ---- balances: SC3 9 and 11 to 13, with the uplift of 16 to 18
 -- a balance starts as year one's amount
@@ -83,35 +77,3 @@ module _ (arn cln fln wpan : ℤ) where
   pub adjustment-is-CFA : ltZ cln fln ≡ false → heldBetween arn fln cln -ℤ arn -ℤ wpan ≡ CFA arn cln fln wpan
   unfolding heldBetween
   adjustment-is-CFA h = each-case (ltZ arn fln) (ltZ cln arn) refl refl h ∙ sym by-tests
-
--- ---- a call that is not refused
--- the adjustment that it gives is SC3 4's
-pub answered-is-CFA : (y : Yearly) → lowest (assessRows y) ≡ 0 → assessGiven y .adjustment ≡ CFA (ARN y 5) (CLN y 5) (FLN y 5) (WPAN y 5)
-answered-is-CFA y e =
-    ap (λ (t : Bool). (cond t (figuresOf (ARN y 5) (CLN y 5) (FLN y 5) (WPAN y 5)) noFigures) .adjustment) (eq-eqb (lowest (assessRows y)) 0 e)
-    ∙ adjustment-is-CFA (ARN y 5) (CLN y 5) (FLN y 5) (WPAN y 5) (all-clear (assessRows y) e .1 .1 .0)
-
--- its four balances are at most 10^10 in magnitude
-pub record BalancesSmall (y : Yearly) : Type 0 where
-  pub revenue : natAbs (ARN y 5) ≤ mostBalance
-  pub cap : natAbs (CLN y 5) ≤ mostBalance
-  pub floor : natAbs (FLN y 5) ≤ mostBalance
-  pub within : natAbs (WPAN y 5) ≤ mostBalance
-
-pub answered-bounds : (y : Yearly) → lowest (assessRows y) ≡ 0 → BalancesSmall y
-answered-bounds y e =
-    let clear = all-clear (assessRows y) e in
-    let good = good-parts y 5 (not-no (goodYearly y 5) (clear .0)) in
-    let a = laterWithin (y .index) (y .revenue) 0 4 in
-    let c = laterWithin (y .index) (y .cap) 0 4 in
-    let f = laterWithin (y .index) (y .floor) 0 4 in
-    let w = laterWithin (y .index) (y .within) 0 4 in
-    let all : (a && (c && (f && w))) ≡ true = not-no (balancesWithin y 5) (clear .1 .0) in
-    let later = and-right a (c && (f && w)) all in
-    let last = and-right c (f && w) later in
-    record {
-      revenue = years-small (y .index) (y .revenue) 4 4 (good .revenue) (and-left a (c && (f && w)) all);
-      cap = years-small (y .index) (y .cap) 4 4 (good .cap) (and-left c (f && w) later);
-      floor = years-small (y .index) (y .floor) 4 4 (good .floor) (and-left f w last);
-      within = years-small (y .index) (y .within) 4 4 (good .within) (and-right f w last);
-    }

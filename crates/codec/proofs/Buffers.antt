@@ -1,7 +1,7 @@
 -- Bytes written one run after another into a buffer. Assumes nothing.
 use mathlib.Core.Path.{_≡_, refl, sym, ap, _∙_}
 use mathlib.Core.Bool.{true, false, cond}
-use mathlib.Core.List.{List, [], _∷_, _++_}
+use mathlib.Core.List.{List, [], _++_}
 use Prim.Native.Nat.{ℕ, _+_, _≤_, _<_}
 use native.Mathlib.Nat.{zero-add, add-zero}
 use native.Mathlib.Omega.{arith}
@@ -9,7 +9,7 @@ use borrow.Author.Tests.{le-leb, lt-leb}
 use lib.Dec.{leb}
 use lib.ListN.{length, drop, length-append}
 use lib.Seq.{sets, sets-eq, length-sets}
-use Rattle.codec.specs.Buffers.{hasRoom, laid, after, Wrote}
+use Rattle.codec.specs.Buffers.{laid, after, Wrote}
 use Rattle.codec.proofs.Numbers.{sets-append}
 
 -- the buffer keeps its length

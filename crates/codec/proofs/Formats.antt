@@ -1,24 +1,17 @@
 -- The laws of fields in order: what is written is read back, and what is read is what would be written. The tags of a part
 -- lie from `lo` on and below `hi`, and what follows it starts with none below `hi`. Assumes nothing.
-use mathlib.Core.Path.{_≡_, refl, sym, ap, ap₂, subst, _∙_}
+use mathlib.Core.Path.{_≡_, refl, sym, ap, subst, _∙_}
 use mathlib.Core.Bool.{Bool, true, false, _&&_, _||_}
 use mathlib.Core.List.{List, [], _∷_, _++_, append-assoc, append-nil}
 use mathlib.Core.Option.{Option, some, none}
-use Prim.Native.Nat.{ℕ, zero, suc, _+_, _-_, _*_, _≤_, _<_, _^_}
-use native.Mathlib.Nat.{le-trans, le-refl, lt-of-le-of-lt, mul-zero, mul-suc, add-comm}
+use Prim.Native.Nat.{ℕ, zero, suc, _+_, _-_, _≤_}
 use native.Mathlib.Omega.{arith}
-use native.Mathlib.Numerals.{add-one}
-use lib.ListN.{length, take, drop, getD, length-append, length-drop, take-append-drop}
-use lib.Dec.{leb, eqb}
-use lib.Seq.{take-at, drop-at, getD-append-add, length-take-le, getD-drop, getD-take, drop-drop, append-snoc, take-suc, drop-cons, drop-append-le}
-use borrow.Author.Tests.{eq-eqb, eqb-true, ne-eqb, le-leb, leb-true}
-use lib.IntN.{ℤ, pos, negsuc, natAbs}
-use mir.Syntax.{w64}
-use mir.Val.{toZ, ofZ, Fits, SFits}
-use mir.ValLaws.{toZ-ofZ, ofZ-toZ, ofZ-fits}
-use Rattle.lists.proofs.Tests.{and-left, and-right, le-or-lt}
-use Rattle.codec.specs.Numbers.{spelled, bytesOf, Bytes}
-use Rattle.codec.specs.Fields.{head, framed, isWhole}
+use lib.ListN.{length, drop}
+use lib.Dec.{leb}
+use lib.Seq.{append-snoc}
+use borrow.Author.Tests.{le-leb, leb-true}
+use Rattle.lists.proofs.Tests.{and-left, and-right}
+use Rattle.codec.specs.Numbers.{Bytes}
 use Rattle.codec.specs.Format.{Item, Res, got, stuck, Codec, need, one, orElse, unless, opt, more, scan, texts, allFine, many, pairUp, andThen, both}
 use Rattle.codec.proofs.Values.{bytes-drop, bytes-right}
 use Rattle.codec.proofs.Items.{Over, over-le, ItemLaws}
@@ -176,11 +169,3 @@ module _ {A : Type 0} (f : List A → Item A) (t : ℕ) (l : (before : List A) �
         over = λ a rest h o. fields-over [] a rest o;
         back = λ bs a rest b h. many-back n bs a rest (scan-back n [] bs a rest b h);
       }
-
-pub widen : {A : Type 0} (c : Codec A) (lo lo' hi hi' : ℕ) → lo' ≤ lo → hi ≤ hi' → Lawful c lo hi → Lawful c lo' hi'
-widen c lo lo' hi hi' p q l =
-    record {
-      there = λ a rest h o. l .there a rest h (over-le q rest o);
-      over = λ a rest h o. over-le p (c .write a ++ rest) (l .over a rest h (over-le q rest o));
-      back = l .back;
-    }

@@ -1,26 +1,21 @@
 -- The laws of fields with a tag. Assumes nothing.
-use mathlib.Core.Path.{_≡_, refl, sym, ap, ap₂, subst, _∙_}
-use mathlib.Core.Bool.{Bool, true, false, _&&_, _||_}
-use mathlib.Core.List.{List, [], _∷_, _++_, append-assoc, append-nil}
+use mathlib.Core.Path.{_≡_, refl, sym, ap, _∙_}
+use mathlib.Core.Bool.{Bool, true, false, _&&_}
+use mathlib.Core.List.{List, [], _∷_, _++_, append-assoc}
 use mathlib.Core.Option.{Option, some, none}
-use Prim.Native.Nat.{ℕ, zero, suc, _+_, _-_, _*_, _≤_, _<_, _^_}
-use native.Mathlib.Nat.{le-trans, le-refl, lt-of-le-of-lt, mul-zero, mul-suc, add-comm}
+use Prim.Native.Nat.{ℕ, suc, _+_, _-_, _≤_, _<_}
+use native.Mathlib.Nat.{le-trans, le-refl}
 use native.Mathlib.Omega.{arith}
-use native.Mathlib.Numerals.{add-one}
-use lib.ListN.{length, take, drop, getD, length-append, length-drop, take-append-drop}
+use lib.ListN.{length, take, drop, length-append}
 use lib.Dec.{leb, eqb}
-use lib.Seq.{take-at, drop-at, getD-append-add, length-take-le, getD-drop, getD-take, drop-drop, append-snoc, take-suc, drop-cons, drop-append-le}
+use lib.Seq.{drop-at, length-take-le, drop-drop}
 use borrow.Author.Tests.{eq-eqb, eqb-true, ne-eqb, le-leb, leb-true}
-use lib.IntN.{ℤ, pos, negsuc, natAbs}
-use mir.Syntax.{w64}
-use mir.Val.{toZ, ofZ, Fits, SFits}
-use mir.ValLaws.{toZ-ofZ, ofZ-toZ, ofZ-fits}
-use Rattle.lists.proofs.Tests.{and-left, and-right, le-or-lt}
+use Rattle.lists.proofs.Tests.{and-left, and-right}
 use Rattle.codec.specs.Numbers.{spelled, bytesOf, Bytes}
 use Rattle.codec.specs.Fields.{head, framed, isWhole}
 use Rattle.codec.specs.Format.{Value, when, Item, field, fieldOf, tagged}
 use Rattle.codec.proofs.Numbers.{bytes-length, spelled-bytes, bytes-spelled}
-use Rattle.codec.proofs.Values.{ValueLaws, bytes-drop, bytes-take, when-true}
+use Rattle.codec.proofs.Values.{ValueLaws, bytes-drop, bytes-take}
 
 -- the list starts with no tag below k
 abbrev pub Over : ℕ → List ℕ → Type 0

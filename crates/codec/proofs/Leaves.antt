@@ -11,7 +11,7 @@ use lib.IntN.{ℤ}
 use lib.ListN.{length, take, drop}
 use Rattle.codec.specs.Numbers.{spelled, bytesOf}
 use Rattle.codec.specs.Fields.{framed}
-use Rattle.codec.specs.Format.{num, int, field, when}
+use Rattle.codec.specs.Format.{num, int, field}
 use Rattle.codec.specs.Leaves.{numberOf, numberBytes, numberFound, amountFound, numberField, amountOf}
 use Rattle.codec.specs.declared.FoundNumber.the-variants as N
 use Rattle.codec.specs.declared.FoundAmount.the-variants as A

@@ -1,23 +1,14 @@
 -- How many bytes are written, and a list of fields written or tested one by one. Assumes nothing.
-use mathlib.Core.Path.{_≡_, refl, sym, ap, ap₂, subst, _∙_}
-use mathlib.Core.Bool.{Bool, true, false, _&&_, _||_}
+use mathlib.Core.Path.{_≡_, refl, sym}
+use mathlib.Core.Bool.{Bool, true, false}
 use mathlib.Core.List.{List, [], _∷_, _++_, append-assoc, append-nil}
-use mathlib.Core.Option.{Option, some, none}
-use Prim.Native.Nat.{ℕ, zero, suc, _+_, _-_, _*_, _≤_, _<_, _^_}
-use native.Mathlib.Nat.{le-trans, le-refl, lt-of-le-of-lt, mul-zero, mul-suc, add-comm}
+use Prim.Native.Nat.{ℕ, _+_, _-_, _*_, _≤_, _<_}
+use native.Mathlib.Nat.{mul-zero, mul-suc, add-comm}
 use native.Mathlib.Omega.{arith}
 use native.Mathlib.Numerals.{add-one}
-use lib.ListN.{length, take, drop, getD, length-append, length-drop, take-append-drop}
-use lib.Dec.{leb, eqb}
-use lib.Seq.{take-at, drop-at, getD-append-add, length-take-le, getD-drop, getD-take, drop-drop, append-snoc, take-suc, drop-cons, drop-append-le}
-use borrow.Author.Tests.{eq-eqb, eqb-true, ne-eqb, le-leb, leb-true}
-use lib.IntN.{ℤ, pos, negsuc, natAbs}
-use mir.Syntax.{w64}
-use mir.Val.{toZ, ofZ, Fits, SFits}
-use mir.ValLaws.{toZ-ofZ, ofZ-toZ, ofZ-fits}
-use Rattle.lists.proofs.Tests.{and-left, and-right, le-or-lt}
-use Rattle.codec.specs.Numbers.{spelled, bytesOf, Bytes}
-use Rattle.codec.specs.Fields.{head, framed, isWhole}
+use lib.ListN.{length, take, getD, length-append}
+use lib.Seq.{append-snoc, take-suc}
+use Rattle.lists.proofs.Tests.{and-left, and-right}
 use Rattle.codec.specs.Format.{Value, Item, fieldOf, unless, texts, allFine}
 use Rattle.codec.proofs.Values.{ValueLaws}
 use Rattle.codec.proofs.Items.{length-head}
@@ -57,18 +48,3 @@ module _ {A : Type 0} (f : List A → Item A) (d : A) where
 
   pub texts-more : (l : List A) (i : ℕ) → i < length l → texts f [] (take (i + 1) l) ≡ texts f [] (take i l) ++ f (take i l) .text (getD l i d)
   texts-more l i h = rw (add-one i, take-suc l i d h) (texts-snoc [] (take i l) (getD l i d))
-
-  pub fine-more : (n : ℕ) (l : List A) (i : ℕ) → i < n → n ≤ length l → allFine f (take i l) (drop i (take n l)) ≡ (f (take i l) .fine (getD l i d) && allFine f (take (i + 1) l) (drop (i + 1) (take n l)))
-  unfolding allFine
-  fine-more n l i h k =
-      let e : length (take n l) ≡ n = length-take-le n l k in
-      rw (drop-cons (take n l) i d (omega arith), getD-take n l i d h, add-one i, take-suc l i d (omega arith))
-
-  pub fine-end : (n : ℕ) (l before : List A) → allFine f before (drop n (take n l)) ≡ true
-  unfolding allFine
-  fine-end n l before = rw (drop-take n l)
-    where
-      drop-take : (m : ℕ) (k : List A) → drop m (take m k) ≡ []
-      drop-take zero k = refl
-      drop-take (suc m) [] = refl
-      drop-take (suc m) (x ∷ k) = drop-take m k

@@ -1,16 +1,16 @@
 -- The laws of `spelled` and `bytesOf`: each undoes the other, at every width.
 use mathlib.Core.Path.{_≡_, refl, sym, ap, _∙_}
 use Prim.Native.Nat.{ℕ, zero, suc, _+_, _-_, _*_, _/_, _%_, _^_, _<_, _≤_}
-use native.Mathlib.Nat.{suc-add, add-suc, add-zero, zero-add, pow-succ', pow-le-pow-right, lt-of-lt-of-le}
+use native.Mathlib.Nat.{add-zero, zero-add, pow-succ', pow-le-pow-right, lt-of-lt-of-le}
 use native.Mathlib.Numerals.{add-one}
 use lib.Dec.{lit≤, leb, eqb}
-use mathlib.Core.Bool.{Bool, true, false, _&&_}
+use mathlib.Core.Bool.{false, _&&_}
 use native.Mathlib.Omega.{arith}
 use mathlib.Core.List.{List, [], _∷_, _++_, append-assoc, append-nil}
 use lib.ListN.{length, getD, take, drop, set, length-append, length-drop}
 use lib.Seq.{take-suc, getD-drop, drop-drop, set-comm, sets}
 use Rattle.codec.specs.Numbers.{spelled, bytesOf, Bytes}
-use Rattle.codec.specs.Fields.{framed, head}
+use Rattle.codec.specs.Fields.{framed}
 
 pub spelled-snoc : (a : ℕ) (xs : List ℕ) (x : ℕ) → spelled a (xs ++ (x ∷ [])) ≡ spelled a xs * 256 + x
 unfolding spelled

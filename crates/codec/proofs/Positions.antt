@@ -1,25 +1,22 @@
 -- The same from a place of the bytes on, as code reads them. Assumes nothing.
-use mathlib.Core.Path.{_≡_, refl, sym, ap, ap₂, subst, _∙_}
-use mathlib.Core.Bool.{Bool, true, false, _&&_, _||_}
-use mathlib.Core.List.{List, [], _∷_, _++_, append-assoc, append-nil}
-use mathlib.Core.Option.{Option, some, none}
+use mathlib.Core.Path.{_≡_, refl, sym, ap, _∙_}
+use mathlib.Core.Bool.{Bool, true, false, _&&_}
+use mathlib.Core.List.{List}
+use mathlib.Core.Option.{some, none}
 use mathlib.Core.Logic.{⊎-elim}
-use Prim.Native.Nat.{ℕ, zero, suc, _+_, _-_, _*_, _≤_, _<_, _^_}
-use native.Mathlib.Nat.{le-trans, le-refl, lt-of-le-of-lt, mul-zero, mul-suc, add-comm}
+use Prim.Native.Nat.{ℕ, _+_, _-_, _≤_, _<_, _^_}
 use native.Mathlib.Omega.{arith}
-use native.Mathlib.Numerals.{add-one}
-use lib.ListN.{length, take, drop, getD, length-append, length-drop, take-append-drop}
+use lib.ListN.{length, take, drop, getD, length-drop}
 use lib.Dec.{leb, eqb}
-use lib.Seq.{take-at, drop-at, getD-append-add, length-take-le, getD-drop, getD-take, drop-drop, append-snoc, take-suc, drop-cons, drop-append-le}
-use borrow.Author.Tests.{eq-eqb, eqb-true, ne-eqb, le-leb, leb-true}
+use lib.Seq.{drop-drop}
+use borrow.Author.Tests.{leb-true}
 use lib.IntN.{ℤ, pos, negsuc, natAbs}
 use mir.Syntax.{w64}
-use mir.Val.{toZ, ofZ, Fits, SFits}
-use mir.ValLaws.{toZ-ofZ, ofZ-toZ, ofZ-fits}
+use mir.Val.{toZ, SFits}
 use Rattle.lists.proofs.Tests.{and-left, and-right, le-or-lt}
-use Rattle.codec.specs.Numbers.{spelled, bytesOf, Bytes}
-use Rattle.codec.specs.Fields.{head, framed, isWhole}
-use Rattle.codec.specs.Format.{Value, when, num, int, field, fieldOf, tagged, one, opt, ReadAt}
+use Rattle.codec.specs.Numbers.{spelled}
+use Rattle.codec.specs.Fields.{framed}
+use Rattle.codec.specs.Format.{Value, when, num, int, field, tagged, one, opt, ReadAt}
 use Rattle.codec.proofs.Numbers.{framed-at, framed-short}
 use Rattle.codec.proofs.Values.{when-true}
 

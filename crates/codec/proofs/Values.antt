@@ -1,24 +1,22 @@
 -- The laws of values: what is written is read back, what is read is what would be written, and no other byte counts.
 -- Assumes nothing.
-use mathlib.Core.Path.{_≡_, refl, sym, ap, ap₂, subst, _∙_}
-use mathlib.Core.Bool.{Bool, true, false, _&&_, _||_}
-use mathlib.Core.List.{List, [], _∷_, _++_, append-assoc, append-nil}
+use mathlib.Core.Path.{_≡_, refl, sym, ap, ap₂, _∙_}
+use mathlib.Core.Bool.{Bool, true, false, _&&_}
+use mathlib.Core.List.{List, [], _∷_, _++_, append-assoc}
 use mathlib.Core.Option.{Option, some, none}
-use Prim.Native.Nat.{ℕ, zero, suc, _+_, _-_, _*_, _≤_, _<_, _^_}
-use native.Mathlib.Nat.{le-trans, le-refl, lt-of-le-of-lt, mul-zero, mul-suc, add-comm}
+use Prim.Native.Nat.{ℕ, zero, suc, _+_, _-_, _≤_, _<_, _^_}
+use native.Mathlib.Nat.{lt-of-le-of-lt}
 use native.Mathlib.Omega.{arith}
-use native.Mathlib.Numerals.{add-one}
-use lib.ListN.{length, take, drop, getD, length-append, length-drop, take-append-drop}
-use lib.Dec.{leb, eqb}
-use lib.Seq.{take-at, drop-at, getD-append-add, length-take-le, getD-drop, getD-take, drop-drop, append-snoc, take-suc, drop-cons, drop-append-le}
-use borrow.Author.Tests.{eq-eqb, eqb-true, ne-eqb, le-leb, leb-true}
+use lib.ListN.{length, take, drop, length-append, length-drop, take-append-drop}
+use lib.Dec.{leb}
+use lib.Seq.{take-at, drop-at, getD-append-add, length-take-le, getD-drop, drop-drop, drop-append-le}
+use borrow.Author.Tests.{leb-true}
 use lib.IntN.{ℤ, pos, negsuc, natAbs}
 use mir.Syntax.{w64}
-use mir.Val.{toZ, ofZ, Fits, SFits}
+use mir.Val.{toZ, ofZ, SFits}
 use mir.ValLaws.{toZ-ofZ, ofZ-toZ, ofZ-fits}
-use Rattle.lists.proofs.Tests.{and-left, and-right, le-or-lt}
+use Rattle.lists.proofs.Tests.{and-left, and-right}
 use Rattle.codec.specs.Numbers.{spelled, bytesOf, Bytes}
-use Rattle.codec.specs.Fields.{head, framed, isWhole}
 use Rattle.codec.specs.Format.{Value, when, mapO, bindO, num, int, pair, mapped, such}
 use Rattle.codec.proofs.Numbers.{bytes-length, spelled-bytes, bytes-spelled, fits-word, spelled-small}
 

@@ -1,5 +1,5 @@
 -- "Fields of one tag byte (decimal here), two length bytes (high first), value": document 01, "The yearly return".
-use mathlib.Core.Bool.{Bool, true, false, _&&_}
+use mathlib.Core.Bool.{Bool, false, _&&_}
 use mathlib.Core.List.{List, [], _∷_, _++_}
 use Prim.Native.Nat.{ℕ}
 use lib.Dec.{leb, eqb}

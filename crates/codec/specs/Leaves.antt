@@ -5,7 +5,7 @@ use mathlib.Core.Option.{Option, some, none}
 use Prim.Native.Nat.{ℕ}
 use lib.Dec.{leb}
 use lib.IntN.{ℤ}
-use lib.ListN.{length, take, drop}
+use lib.ListN.{length, take}
 use Rattle.codec.specs.Numbers.{spelled, bytesOf}
 use Rattle.codec.specs.Format.{num, int, field, when}
 use Rattle.codec.specs.declared.FoundNumber.{FoundNumber}

@@ -35,7 +35,7 @@ use Rattle.balances.specs.declared.assessing.Yearly.{Yearly}
 use Rattle.balances.specs.declared.assessing.Assessment.{Assessment}
 use Rattle.balances.specs.Assessment.{ARN, CLN, FLN, WPAN, goodYearly, figuresOf, noFigures, assessRows, assessNumber, assessFigures, AssessGives}
 use Rattle.balances.proofs.Licence.{starts-as, carried-forward, adjustment-is-CFA}
-use Rattle.balances.proofs.NetPresent.{exact-is-sum, five-uplifts, assessed-near}
+use Rattle.balances.proofs.NetPresent.{exact-is-sum, each-term, five-uplifts, five-terms, assessed-near}
 use Rattle.assessment.specs.Period.{yearlyOf}
 use Rattle.assessment.proofs.Period.{period-assessed}
 use Rattle.settlement.specs.declared.medians.Period.{Period}
@@ -54,7 +54,7 @@ use Rattle.filing.specs.Return.{mostBytes, Reading, whole, refused, readingOf, 
 use Rattle.round_trip.specs.Flat.{fieldsOf}
 use Rattle.round_trip.specs.Places.{Stands}
 use Rattle.round_trip.proofs.Places.{accepted-filed, filed-accepted, same-bytes, stands, stands-alone, longer-stands, one-place}
-use Rattle.round_trip.proofs.Flat.{flat, tags-ascend}
+use Rattle.round_trip.proofs.Flat.{flat, flat-whole, tags-ascend}
 use Rattle.reading.specs.Reading.{ReturnGives}
 use Rattle.writing.specs.declared.Written.{Written}
 use Rattle.writing.specs.declared.Written.the-variants.{Length}
@@ -234,6 +234,8 @@ demand-2 = record {
   carried = figures-carried;
   exact = exact-is-sum;
   uplifts = five-uplifts;
+  each-term = each-term;
+  five-terms = five-terms;
   near = figures-near;
   adjustment = figures-CFA;
   period = λ book years log r len g n.
@@ -253,6 +255,7 @@ demand-2 = record {
   refiled = refiled-is;
   is-return = λ bs b t g. (λ n. filed-accepted bs b (sym (g .0) ∙ n), λ f. g .0 ∙ accepted-filed (f .year) bs (f .files));
   same-bytes = same-bytes;
+  whole-fields = flat-whole;
   flat = flat-is;
   tags = λ bs b t g n. tags-ascend bs b (sym (g .0) ∙ n);
   place = λ bs b t g n h. stands-there bs t g b n h;

@@ -35,7 +35,7 @@ use Rattle.balances.specs.declared.assessing.Figures.{Figures}
 use Rattle.balances.specs.declared.assessing.Assessment.{Assessment}
 use Rattle.balances.specs.Balance.{carryOf, balanceAfter}
 use Rattle.balances.specs.Assessment.{heldBetween, CFA, assessNumber, assessFigures, AssessGives}
-use Rattle.balances.specs.NetPresent.{netPresent, exactBalance, FiveUplifts, Near}
+use Rattle.balances.specs.NetPresent.{upliftOver, upliftUnder, commonDivisor, UF, netPresent, exactBalance, FiveUplifts, Near}
 use Rattle.assessment.specs.Period.{yearlyOf, PeriodGives}
 use Rattle.settlement.specs.declared.medians.Period.{Period}
 use Rattle.settlement.specs.declared.medians.Gap.{Gap}
@@ -106,6 +106,16 @@ pub record Demand2 : Type 0 where
   -- SC3 9, 11 to 13, 16: without rounding the recursion is the licence's sum of amounts times products of uplifts, over any number of years
   pub exact : (index : List ℕ) (amounts : List ℤ) (n : ℕ) → exactBalance index amounts n ≡ netPresent index amounts n
   pub uplifts : (factor : ℕ → ℕ) → FiveUplifts factor
+  -- each term has its own uplift: what stands over the common divisor is the year's uplift over its own divisors
+  pub each-term : (index : List ℕ) (t n : ℕ) → t ≤ n → UF index t n * upliftUnder index t n ≡ upliftOver index t n * commonDivisor index n
+  -- and of five years the sum is the licence's
+  pub five-terms : (index : List ℕ) (amounts : List ℤ)
+      → netPresent index amounts 4
+      ≡ getD amounts 0 (pos 0) *ℤ pos (UF index 0 4)
+      +ℤ getD amounts 1 (pos 0) *ℤ pos (UF index 1 4)
+      +ℤ getD amounts 2 (pos 0) *ℤ pos (UF index 2 4)
+      +ℤ getD amounts 3 (pos 0) *ℤ pos (UF index 3 4)
+      +ℤ getD amounts 4 (pos 0) *ℤ pos (UF index 4 4)
   -- with rounding each balance is near it
   pub near : (y : Yearly) (r : Assessment) → AssessGives y r → assessNumber r ≡ 0 → NearSums y (assessFigures r)
   -- ---- the adjustment, of five rows of amounts and of a period, which is assessed as its yearly amounts are
@@ -141,7 +151,8 @@ pub record Demand2 : Type 0 where
   -- ---- a return is accepted exactly where some valid year has these bytes, and one year alone has them
   pub is-return : (bs : List ℕ) → Bytes bs → (t : Return) → ReturnGives bs t → (answerNumber (t .answer) ≡ 0 → Filed bs) × (Filed bs → answerNumber (t .answer) ≡ 0)
   pub same-bytes : (x y : Year) (bs : List ℕ) → Files x bs → Files y bs → x ≡ y
-  -- what is written is the year's fields, one after the other
+  -- what is written is the year's fields, one after the other, each whole
+  pub whole-fields : (y : Year) → all isWhole (fieldsOf y) ≡ true
   pub flat : (y : Year) (out : List ℕ) (r : Written) (o : List ℕ) → WriteGives y out r o → writtenNumber r ≡ 0
       → o ≡ joined (fieldsOf y) ++ drop (length (joined (fieldsOf y))) out
   -- in an accepted return tags ascend and only 06 and 07 repeat

@@ -8,7 +8,6 @@ use Rattle.lists.specs.Lists.{all}
 use Rattle.refusals.specs.Refusals.{Rows, accepted}
 use Rattle.refusals.specs.declared.Refusal.the-variants.{BrokenLog, BadYear, Malformed, NoRoom}
 use Rattle.refusals.specs.declared.Answer.the-variants.{Refused}
-use Rattle.outage.specs.declared.Log.{Log}
 use Rattle.outage.specs.Log.{lastRegimeEnd, validLog, live, holding}
 use Rattle.year.specs.declared.Line.{Line}
 use Rattle.year.specs.declared.Year.{Year}

@@ -1,5 +1,5 @@
 -- A signed number as what it has above zero and below zero, both natural numbers, which `omega` reads.
--- List `sum a b`, `diff a b`, `abs a` for `omega`; an order or an equation goes over by `from-le`, `from-lt`, `from-ge`, `to-le`, `to-eq`. Assumes nothing.
+-- List `sum a b`, `diff a b`, `abs a` for `omega`; an order or an equation goes over by `from-lt`, `from-ge`, `to-eq`. Assumes nothing.
 use mathlib.Core.Path.{_≡_, refl, ap, _∙_}
 use mathlib.Core.Bool.{Bool, true, false, cond}
 use Prim.Native.Nat.{ℕ, zero, suc, _+_, _*_, _-_, _≤_, _<_}
@@ -7,8 +7,8 @@ use native.Mathlib.Nat.{add-mul, mul-assoc}
 use native.Mathlib.Omega.{arith}
 use lib.Dec.{ltb}
 use lib.IntN.{ℤ, pos, negsuc, negℤ, natAbs, _+ℤ_, _-ℤ_, _*ℤ_}
-use lib.Signed.{ltZ, leZ}
-use borrow.Author.Tests.{ltb-true, ltb-false, leb-true, le-leb}
+use lib.Signed.{ltZ}
+use borrow.Author.Tests.{ltb-true, ltb-false}
 
 -- what a number has above zero
 unfoldable pub over : ℤ → ℕ
@@ -59,22 +59,6 @@ abs (pos n) = omega arith
 abs (negsuc n) = omega arith
 
 -- ---- order and equality
--- what `a` at most `b` says of the parts
-pub from-le : (a b : ℤ) → leZ a b ≡ true → over a + under b ≤ over b + under a
-unfolding over under
-from-le (pos a) (pos b) e = let h : a ≤ b = leb-true a b e in omega arith
-from-le (pos a) (negsuc b) e = let no : _≡_ {A = ℕ} 0 1 = cc in absurd (omega arith)
-from-le (negsuc a) (pos b) e = omega arith
-from-le (negsuc a) (negsuc b) e = let h : b ≤ a = leb-true b a e in omega arith
-
--- and back
-pub to-le : (a b : ℤ) → over a + under b ≤ over b + under a → leZ a b ≡ true
-unfolding over under
-to-le (pos a) (pos b) h = le-leb a b (omega arith)
-to-le (pos a) (negsuc b) h = absurd (omega arith)
-to-le (negsuc a) (pos b) h = refl
-to-le (negsuc a) (negsuc b) h = le-leb b a (omega arith)
-
 -- what `a` below `b` says of the parts
 pub from-lt : (a b : ℤ) → ltZ a b ≡ true → over a + under b < over b + under a
 unfolding over under

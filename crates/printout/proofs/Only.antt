@@ -2,13 +2,12 @@
 use mathlib.Core.Path.{_≡_, refl, sym, _∙_}
 use mathlib.Core.List.{List, []}
 use Prim.Native.Nat.{ℕ}
-use Rattle.refusals.specs.Refusals.{numberOf, lowest}
 use Rattle.refusals.specs.declared.Refusal.the-variants.{Malformed}
 use Rattle.refusals.specs.Answers.{One}
 use Rattle.text.specs.declared.Text.{Text}
 use Rattle.text.specs.Text.{pushed, textOf}
 use Rattle.codec.specs.Numbers.{Bytes}
-use Rattle.filing.specs.Return.{Reading, whole, refused, readingOf, readRows, readYear}
+use Rattle.filing.specs.Return.{Reading, whole, refused, readingOf, readYear}
 use Rattle.printout.specs.Printout.{refusalOf, printedYear, PrintGives}
 use Rattle.printout.proofs.Sheets.{refused-given, year-given}
 

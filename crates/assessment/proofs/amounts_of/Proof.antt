@@ -1,6 +1,6 @@
 use mathlib.Core.Path.{_≡_, refl, sym, ap, _∙_}
 use mathlib.Core.Bool.{Bool, true, cond}
-use Prim.Native.Nat.{_≤_, _<_, _-_}
+use Prim.Native.Nat.{_≤_, _-_}
 use native.Mathlib.Omega.{arith}
 use borrow.Author.Needs.{needs}
 use borrow.Author.Tests.{not-true, not-false}
@@ -10,8 +10,8 @@ use Rattle.lists.proofs.Tests.{held}
 use Rattle.lists.proofs.Lists.{all-at}
 use Rattle.year.specs.Year.{goodYearRecord}
 use Rattle.balances.specs.declared.assessing.Yearly.{Yearly}
-use Rattle.assessment.specs.Period.{yearFits, yearlyOf, noAmounts, withRow, rowOf}
-use Rattle.assessment.proofs.Years.{noYear, turned, turned-start, turned-on, turned-end, fits-on, fits-not, row-says}
+use Rattle.assessment.specs.Period.{yearFits, yearlyOf, noAmounts, withRow}
+use Rattle.assessment.proofs.Years.{noYear, turned, turned-on, turned-end, fits-on, fits-not, row-says}
 use Rattle.assessment.proofs.amounts_of.Statement.{statement}
 use Rattle.assessment.proofs.amounts_of.Tie as tie
 use Rattle.assessment.proofs.amounts_of.Reads as reads

@@ -1,4 +1,4 @@
-use mathlib.Core.Path.{_≡_, sym, ap, _∙_}
+use mathlib.Core.Path.{_∙_}
 use Rattle.money.proofs.Pounds.{wire}
 use Rattle.assessment.proofs.Rows.{levels-told, levels-refused, revenue-told, revenue-refused, row-none, row-no-revenue, row-made}
 use borrow.Author.Needs.{needs}

@@ -4,7 +4,7 @@ use Rattle.refusals.specs.Refusals.{answerNumber, lowest}
 use Rattle.text.specs.Text.{pushed, textOf}
 use Rattle.codec.specs.Numbers.{Bytes}
 use Rattle.year.specs.declared.Year.{Year}
-use Rattle.filing.specs.Return.{readRows, readYear, validYear}
+use Rattle.filing.specs.Return.{readRows, validYear}
 use Rattle.round_trip.proofs.RoundTrip.{read-valid}
 use Rattle.printout.specs.Printout.{printedYear}
 use Rattle.printout.proofs.Sheets.{refused-given, year-given}

@@ -1,7 +1,4 @@
-use mathlib.Core.Path.{_≡_, sym, ap, _∙_}
 use borrow.Author.Tests.{eq-eqb}
-use lib.Dec.{eqb}
-use lib.IntN.{natAbs}
 use Rattle.lists.proofs.Tests.{facts}
 use Rattle.money.proofs.Pounds.{wire}
 use Rattle.year.proofs.checking.is_zero_line.Statement.{statement}
