@@ -2,7 +2,7 @@
 -- refused call has a fixed number, gives back the log it got, and writes no byte to a lent buffer.
 -- That a call ends is proved of its code; what it may then answer is said here, by what it promises.
 use mathlib.Core.Path.{_≡_}
-use mathlib.Core.Bool.{false}
+use mathlib.Core.Bool.{true, false}
 use mathlib.Core.List.{List, []}
 use Prim.Native.Nat.{ℕ, _≤_}
 use lib.IntN.{ℤ, pos}
@@ -15,23 +15,24 @@ use Rattle.outage.specs.declared.Entry.{Entry}
 use Rattle.outage.specs.declared.Log.{Log}
 use Rattle.outage.specs.declared.Logged.{Logged}
 use Rattle.outage.specs.declared.losing.LostEnergy.{LostEnergy}
-use Rattle.outage.specs.Log.{lastRegimeEnd, holding}
+use Rattle.outage.specs.Log.{lastRegimeEnd, validLog, holding}
 use Rattle.outage.specs.Calls.{EmptyGives, EnterGives, CancelGives, lostNumber, lostFigure, LostGives}
 use Rattle.outage.specs.Calls as logs
 use Rattle.year.specs.declared.Year.{Year}
-use Rattle.year.specs.Year.{freshYear}
+use Rattle.year.specs.Year.{freshYear, goodYearRecord}
 use Rattle.year.specs.Year as years
 use Rattle.levels.specs.declared.Book.{Book}
 use Rattle.levels.specs.declared.measuring.Availability.{Availability}
 use Rattle.levels.specs.declared.measuring.Target.{Target}
 use Rattle.levels.specs.declared.levelling.Levels.{Levels}
+use Rattle.levels.specs.Book.{bookHolds}
 use Rattle.levels.specs.Availability.{availabilityNumber, availabilityFigure, AvailabilityGives, targetNumber, targetMet, TargetGives}
 use Rattle.levels.specs.Levels.{levelsNumber, capFigure, floorFigure, LevelsGives}
 use Rattle.revenue.specs.declared.Revenue.{Revenue}
 use Rattle.revenue.specs.Revenue.{revenueNumber, revenueFigure, RevenueGives}
 use Rattle.balances.specs.declared.assessing.Yearly.{Yearly}
 use Rattle.balances.specs.declared.assessing.Assessment.{Assessment}
-use Rattle.balances.specs.Assessment.{noFigures, assessNumber, assessFigures, AssessGives}
+use Rattle.balances.specs.Assessment.{goodYearly, noFigures, assessNumber, assessFigures, AssessGives}
 use Rattle.assessment.specs.Period.{PeriodGives}
 use Rattle.settlement.specs.declared.medians.Period.{Period}
 use Rattle.settlement.specs.declared.medians.Gap.{Gap}
@@ -45,6 +46,11 @@ use Rattle.writing.specs.declared.Written.{Written}
 use Rattle.writing.specs.Written.{writtenNumber, lengthFigure, WriteGives}
 use Rattle.refiling.specs.Refiled.{RefileGives}
 use Rattle.printout.specs.Printout.{PrintGives}
+
+-- a number that is 8 for a bad book, and else 1 for a broken log
+abbrev pub BookThenLog : Book → Log → ℕ → Type 0
+BookThenLog book log n =
+    (bookHolds book (log .«regime_end») ≡ false → n ≡ 8) × (bookHolds book (log .«regime_end») ≡ true → validLog log ≡ false → n ≡ 1)
 
 pub record Demand1 : Type 0 where
   -- ---- each call answers on every input, and in one way
@@ -70,6 +76,17 @@ pub record Demand1 : Type 0 where
   pub write : (y : Year) (out : List ℕ) → One (λ (p : Written × List ℕ). WriteGives y out (p .0) (p .1))
   pub refile : (bs out : List ℕ) → One (λ (p : Written × List ℕ). RefileGives bs out (p .0) (p .1))
   pub print : (bs : List ℕ) → Bytes bs → One (PrintGives bs)
+  -- ---- "It checks what it is handed": a broken log is 1, a bad book 8 before it, a year or amounts out of range 9
+  pub enter-checks : (log : Log) (e : Entry) (r : Logged) → EnterGives log e r → validLog log ≡ false → answerNumber (r .answer) ≡ 1
+  pub cancel-checks : (log : Log) (start : ℕ) (r : Logged) → CancelGives log start r → validLog log ≡ false → answerNumber (r .answer) ≡ 1
+  pub lost-checks : (log : Log) (a b : ℕ) (r : LostEnergy) → LostGives log a b r → validLog log ≡ false → lostNumber r ≡ 1
+  pub availability-checks : (book : Book) (log : Log) (number : ℕ) (r : Availability) → AvailabilityGives book log number r → BookThenLog book log (availabilityNumber r)
+  pub target-checks : (book : Book) (log : Log) (number : ℕ) (r : Target) → TargetGives book log number r → BookThenLog book log (targetNumber r)
+  pub levels-checks : (book : Book) (y : Year) (log : Log) (r : Levels) → LevelsGives book y log r → BookThenLog book log (levelsNumber r)
+  pub period-checks : (book : Book) (years : List Year) (log : Log) (r : Assessment) → PeriodGives book years log r → BookThenLog book log (assessNumber r)
+  pub revenue-checks : (y : Year) (r : Revenue) → RevenueGives y r → goodYearRecord y ≡ false → revenueNumber r ≡ 9
+  pub assess-checks : (y : Yearly) (r : Assessment) → AssessGives y r → goodYearly y 5 ≡ false → assessNumber r ≡ 9
+  pub write-checks : (y : Year) (out : List ℕ) (r : Written) (o : List ℕ) → WriteGives y out r o → validLog (y .log) ≡ false → writtenNumber r ≡ 1
   -- ---- "A refused call has a fixed number": 1 to 14, each for one refusal
   pub numbered : (why : Refusal) → (1 ≤ numberOf why) × (numberOf why ≤ 14)
   pub fixed : (why other : Refusal) → numberOf why ≡ numberOf other → why ≡ other
