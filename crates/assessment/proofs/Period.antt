@@ -19,7 +19,7 @@ use Rattle.refusals.proofs.Laws.{all-clear, never-zero, refused-not}
 use Rattle.outage.specs.declared.Log.{Log}
 use Rattle.outage.specs.Log.{validLog, goodRegimeEnd}
 use Rattle.money.proofs.Pounds.{nonNeg-is}
-use Rattle.money.proofs.Rounded.{round-nonneg}
+use Rattle.money.proofs.Nearest.{round-nonneg}
 use Rattle.calendar.specs.Years.{goodYear}
 use Rattle.year.specs.declared.Year.{Year}
 use Rattle.year.specs.Year.{goodYearRecord, goodPppi, goodRate, goodFactors, goodLines}

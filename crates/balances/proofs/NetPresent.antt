@@ -12,7 +12,7 @@ use borrow.Author.Tests.{lt-ltb, le-ltb}
 use Rattle.money.specs.Rounding.{roundZ}
 use Rattle.money.proofs.Pounds.{abs-add}
 use Rattle.money.proofs.Parts.{sum, diff, times-over, times-under, times-sum, times-neg, times-times, to-eq}
-use Rattle.money.proofs.Rounded.{abs-times, round-near}
+use Rattle.money.proofs.Nearest.{abs-times, round-near}
 use Rattle.balances.specs.declared.assessing.Yearly.{Yearly}
 use Rattle.balances.specs.Balance.{carryOf, balanceAfter, goodAmounts}
 use Rattle.balances.specs.NetPresent.{growthOver, growthUnder, productLater, upliftOver, upliftUnder, commonDivisor, UF, sumTo, netPresent, exactBalance, sumLater, roundings, Near, FiveUplifts, NearLicence}

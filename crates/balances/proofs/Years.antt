@@ -12,7 +12,7 @@ use lib.IntN.{ℤ, pos, natAbs, _+ℤ_}
 use borrow.Author.Tests.{leb-true}
 use Rattle.lists.proofs.Tests.{and-left, and-right}
 use Rattle.money.specs.Rounding.{scaledOf}
-use Rattle.money.proofs.Rounded.{scaled-is, scaled-small}
+use Rattle.money.proofs.Nearest.{scaled-is, scaled-small}
 use Rattle.balances.specs.declared.carrying.Balance.{Balance}
 use Rattle.balances.specs.declared.carrying.Balance.the-variants.{Is, Over}
 use Rattle.balances.specs.Balance.{carryOf, balanceAfter, mostBalance, laterWithin, carriedOf, goodAmounts}

@@ -13,7 +13,7 @@ use mir.Val.{toZ, ofZ}
 use mir.Facts.{toZ-ofZ}
 use Rattle.lists.proofs.Tests.{and-left, and-right}
 use Rattle.money.proofs.Pounds.{sfits}
-use Rattle.money.proofs.Rounded.{abs-round, round-le}
+use Rattle.money.proofs.Nearest.{abs-round, round-le}
 use Rattle.calendar.specs.Years.{goodYear}
 use Rattle.outage.specs.Log.{goodRegimeEnd}
 use Rattle.year.specs.declared.Year.{Year}

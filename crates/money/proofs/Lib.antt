@@ -2,4 +2,4 @@
 pub mod Pounds
 pub mod Signs
 pub mod Parts
-pub mod Rounded
+pub mod Nearest

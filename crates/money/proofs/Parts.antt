@@ -20,6 +20,10 @@ unfoldable pub under : ℤ → ℕ
 under (pos n) = 0
 under (negsuc n) = suc n
 
+-- a is at most b, by their parts
+abbrev pub AtMost : ℤ → ℤ → Type 0
+AtMost a b = over a + under b ≤ over b + under a
+
 -- ---- operations
 less-parts : (a b : ℕ) (t : Bool) → ltb a b ≡ t → over (cond t (negsuc (b - suc a)) (pos (a - b))) + b ≡ under (cond t (negsuc (b - suc a)) (pos (a - b))) + a
 unfolding over under
@@ -58,6 +62,12 @@ unfolding over under
 abs (pos n) = omega arith
 abs (negsuc n) = omega arith
 
+-- a number whose parts differ by at most half of d has a magnitude of at most that
+pub within-half : (z : ℤ) (d : ℕ) → 2 * over z ≤ 2 * under z + d → 2 * under z ≤ 2 * over z + d → 2 * natAbs z ≤ d
+unfolding over under
+within-half (pos n) d h k = omega arith
+within-half (negsuc n) d h k = omega arith
+
 -- ---- order and equality
 -- what `a` below `b` says of the parts
 pub from-lt : (a b : ℤ) → ltZ a b ≡ true → over a + under b < over b + under a
@@ -68,7 +78,7 @@ from-lt (negsuc a) (pos b) e = omega arith
 from-lt (negsuc a) (negsuc b) e = let h : b < a = ltb-true b a e in omega arith
 
 -- what `a` not below `b` says of the parts
-pub from-ge : (a b : ℤ) → ltZ a b ≡ false → over b + under a ≤ over a + under b
+pub from-ge : (a b : ℤ) → ltZ a b ≡ false → AtMost b a
 unfolding over under
 from-ge (pos a) (pos b) e = let h : b ≤ a = ltb-false a b e in omega arith
 from-ge (pos a) (negsuc b) e = omega arith

@@ -6,6 +6,10 @@ use lib.IntN.{ℤ, pos, negsuc}
 abbrev pub mostPounds : ℕ
 mostPounds = 9223372036854775807
 
+-- the most that fits 64 bits without a sign
+abbrev pub mostWhole : ℕ
+mostWhole = 18446744073709551615
+
 -- held to what fits: the number itself, or the end of the range that it lies past
 abbrev pub heldZ : ℤ → ℤ
 heldZ (pos n) = pos (min n mostPounds)

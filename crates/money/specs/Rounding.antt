@@ -1,12 +1,21 @@
 -- "Divisions in levels, carries and conversions round to nearest, halves away from zero." The rule stands once, behind `upOf`.
-use Prim.Native.Nat.{ℕ, suc, _+_, _*_, _/_, _%_}
+use Prim.Native.Nat.{ℕ, suc, _+_, _*_, _/_, _%_, min}
 use mathlib.Core.Bool.{Bool, cond, _&&_}
 use lib.Dec.{leb, ltb}
 use lib.IntN.{ℤ, pos, negsuc, negℤ, natAbs, _*ℤ_}
+use Rattle.money.specs.Pounds.{mostWhole}
 
 -- what the rest of a division by d adds to its quotient q: 1 where it rounds up, else 0. A half rounds up
 unfoldable pub upOf : ℕ → ℕ → ℕ → ℕ
 upOf q rest d = cond (leb d (2 * rest)) 1 0
+
+-- a rest that is below its divisor, and a divisor of at most 10^12; so it is not 0
+abbrev pub isRest : ℕ → ℕ → Bool
+isRest rest divisor = ltb rest divisor && leb divisor 1000000000000
+
+-- the rule on a quotient, a rest and a divisor: the quotient with what the rest adds, held to what fits 64 bits; else 0
+unfoldable pub roundedOf : ℕ → ℕ → ℕ → ℕ
+roundedOf quotient rest divisor = cond (isRest rest divisor) (min (quotient + upOf quotient rest divisor) mostWhole) 0
 
 -- n / d to nearest
 unfoldable pub roundDiv : ℕ → ℕ → ℕ

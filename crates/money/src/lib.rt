@@ -2,6 +2,7 @@
 // Each answers on every input.
 mod rounding;
 
+pub use rounding::rounded;
 pub use rounding::scaled;
 ghost use mathlib.Core.Path.{_≡_};
 ghost use lib.Dec.{leb};
@@ -12,12 +13,19 @@ ghost use Rattle.money.specs.Pounds.{heldZ};
 // The most that fits an i64.
 const MOST: u64 = 9_223_372_036_854_775_807;
 
+// Minus one less z. It turns the range of an i64 over onto itself, and so turns a sum into a difference.
+fn turned(z: i64) -> i64
+    ensures { λ r. ⌜ r ≡ negsuc 0 -ℤ z ⌝ }
+{
+    -1 - z
+}
+
 // The magnitude, of the least i64 too.
 pub fn magnitude(z: i64) -> u64
     ensures { λ r. ⌜ r ≡ natAbs z ⌝ }
 {
     if z < 0 {
-        ((-1 - z) as u64) + 1
+        (turned(z) as u64) + 1
     } else {
         z as u64
     }
@@ -56,10 +64,7 @@ pub fn credit(n: u64) -> i64
 fn below_zero(n: u64) -> i64
     ensures { λ r. ⌜ r ≡ heldZ (negsuc n) ⌝ }
 {
-    if MOST < n {
-        return -9_223_372_036_854_775_808;
-    }
-    -1 - (n as i64)
+    turned(credit(n))
 }
 
 // n pounds to the bad, held to what fits.
@@ -76,30 +81,22 @@ pub fn debit(n: u64) -> i64
 pub fn plus(a: i64, b: i64) -> i64
     ensures { λ r. ⌜ r ≡ heldZ (a +ℤ b) ⌝ }
 {
-    if a < 0 {
-        if b < 0 {
-            return below_zero(magnitude(a) + (magnitude(b) - 1));
-        }
+    let bad = is_negative(a);
+    if bad != is_negative(b) {
         return a + b;
     }
-    if b < 0 {
-        return a + b;
+    let m = magnitude(a);
+    let n = magnitude(b);
+    if bad {
+        below_zero(m + (n - 1))
+    } else {
+        credit(m + n)
     }
-    credit(magnitude(a) + magnitude(b))
 }
 
-// The difference, held to what fits.
+// The difference, held to what fits: a - b is -1 - (-1 - a + b).
 pub fn minus(a: i64, b: i64) -> i64
     ensures { λ r. ⌜ r ≡ heldZ (a -ℤ b) ⌝ }
 {
-    if a < 0 {
-        if b < 0 {
-            return a - b;
-        }
-        return below_zero(magnitude(b) + (magnitude(a) - 1));
-    }
-    if b < 0 {
-        return credit(magnitude(a) + magnitude(b));
-    }
-    a - b
+    turned(plus(turned(a), b))
 }

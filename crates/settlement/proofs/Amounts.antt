@@ -1,20 +1,20 @@
 -- Payments: what a grown amount is, what a gap tells, and what is held to what fits. Assumes nothing.
 use mathlib.Core.Path.{_≡_, refl, sym, ap, _∙_, subst}
 use mathlib.Core.Bool.{Bool, true, false, not, cond, _&&_}
-use Prim.Native.Nat.{ℕ, suc, _*_, _/_, _^_, _≤_, _<_}
+use Prim.Native.Nat.{ℕ, _*_, _/_, _^_, _≤_, _<_}
 use native.Mathlib.Nat.{mul-le-mul, le-of-lt}
 use native.Mathlib.Omega.{arith}
 use lib.Dec.{leb, eqb, lit<}
 use lib.IntN.{ℤ, pos, negsuc, negℤ, natAbs}
 use lib.Signed.{ltZ}
-use borrow.Author.Tests.{ltb-true, lt-ltb, leb-true}
+use borrow.Author.Tests.{lt-ltb, leb-true}
 use Rattle.lists.proofs.Tests.{and-right, not-no}
 use Rattle.refusals.specs.declared.Refusal.{Refusal}
 use Rattle.refusals.specs.Refusals.{lowest, numberOf}
 use Rattle.refusals.proofs.Laws.{never-zero, all-clear}
 use Rattle.money.specs.Pounds.{heldZ}
-use Rattle.money.specs.Rounding.{onMagnitude}
-use Rattle.money.proofs.Pounds.{held-small, held-within, abs-neg}
+use Rattle.money.proofs.Pounds.{held-small, held-within}
+use Rattle.money.proofs.Nearest.{debit-on, credit-on}
 use Rattle.settlement.specs.declared.medians.Period.{Period}
 use Rattle.settlement.specs.declared.medians.Gap.{Gap}
 use Rattle.settlement.specs.declared.medians.Gap.the-variants as gap
@@ -36,14 +36,12 @@ paid-fits z n h w = cut-small (natAbs z * growthOf n) (product (natAbs z) (growt
 
 -- ---- the sign restored, and nothing lost by holding to what fits
 pub debit-is : (z : ℤ) (n : ℕ) → natAbs z * growthOf n / 1000000000 < 2 ^ 63 → ltZ z (pos 0) ≡ true → heldZ (negℤ (pos (natAbs z * growthOf n / 1000000000))) ≡ paidOf z n
-unfolding paidOf onMagnitude
-debit-is (pos k) n h e = let no : k < 0 = ltb-true k 0 e in absurd (omega arith)
-debit-is (negsuc k) n h e = held-small (negℤ (pos (suc k * growthOf n / 1000000000))) (rw (abs-neg (pos (suc k * growthOf n / 1000000000))) h)
+unfolding paidOf
+debit-is z n h e = debit-on (λ (m : ℕ). m * growthOf n / 1000000000) z h e
 
 pub credit-is : (z : ℤ) (n : ℕ) → natAbs z * growthOf n / 1000000000 < 2 ^ 63 → ltZ z (pos 0) ≡ false → heldZ (pos (natAbs z * growthOf n / 1000000000)) ≡ paidOf z n
-unfolding paidOf onMagnitude
-credit-is (pos k) n h e = held-small (pos (k * growthOf n / 1000000000)) h
-credit-is (negsuc k) n h e = let no : _≡_ {A = ℕ} 0 1 = cc in absurd (omega arith)
+unfolding paidOf
+credit-is z n h e = credit-on (λ (m : ℕ). m * growthOf n / 1000000000) z h e
 
 -- ---- what a gap tells
 least : (z : ℤ) → goodHundredths z ≡ true → natAbs z < 500

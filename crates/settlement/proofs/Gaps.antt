@@ -1,77 +1,48 @@
 -- The gap in hundredths of a year: what the rounded quotient is. Assumes nothing.
-use mathlib.Core.Path.{_≡_, refl, ap, _∙_}
+use mathlib.Core.Path.{_≡_, refl}
 use mathlib.Core.Bool.{true, false, _&&_}
-use mathlib.Core.Logic.{⊎-elim}
-use Prim.Native.Nat.{ℕ, zero, suc, _+_, _-_, _*_, _/_, _%_, _≤_, _<_}
-use native.Mathlib.Nat.{not-suc-le-zero}
+use Prim.Native.Nat.{ℕ, zero, _+_, _-_, _*_, _/_, _≤_, _<_}
 use native.Mathlib.Omega.{arith}
 use lib.Dec.{leb, leb·zero}
-use lib.IntN.{pos, negsuc, negℤ, _-ℤ_}
-use borrow.Author.Tests.{leb-true, le-leb, lt-leb, lt-ltb, le-ltb}
-use Rattle.lists.proofs.Tests.{le-or-lt, and-left, and-right}
-use Rattle.money.specs.Rounding.{upOf, roundDiv, onMagnitude, roundZ}
+use lib.IntN.{ℤ, pos, negsuc, natAbs, _-ℤ_, _*ℤ_}
+use borrow.Author.Tests.{leb-true, le-leb, lt-leb}
+use Rattle.lists.proofs.Tests.{and-left, and-right}
+use Rattle.money.proofs.Parts.{over, under, diff, abs, within-half, times-over, times-under}
+use Rattle.money.proofs.Nearest.{round-near, round-to}
 use Rattle.settlement.specs.declared.medians.Period.{Period}
 use Rattle.settlement.specs.Gap.{goodPeriod, daySum, hundredths, goodHundredths}
 
--- ---- the rounding rule away from a half
-pub up-clear : (q rest d : ℕ) → 2 * rest < d → upOf q rest d ≡ 0
-unfolding upOf
-up-clear q rest d h = rw (lt-leb d (2 * rest) h)
-
-pub up-over : (q rest d : ℕ) → d < 2 * rest → upOf q rest d ≡ 1
-unfolding upOf
-up-over q rest d h = rw (le-leb d (2 * rest) (omega arith))
-
--- what lies nearer than a half to q rounds to q
-near-to : (x q : ℕ) → 2922 * q < 2 * x + 1461 → 2 * x < 2922 * q + 1461 → roundDiv x 1461 ≡ q
-unfolding roundDiv
-near-to x q l h =
-    ⊎-elim (λ (w : 2 * (x % 1461) ≤ 1461). rw (up-clear (x / 1461) (x % 1461) 1461 (omega arith)) (omega arith))
-    (λ (w : 1461 < 2 * (x % 1461)). rw (up-over (x / 1461) (x % 1461) 1461 w) (omega arith))
-    (le-or-lt (2 * (x % 1461)) 1461)
-
--- ---- by how much one sum is past another
-pub past : (a b : ℕ) → b ≤ a → pos a -ℤ pos b ≡ pos (a - b)
-past a zero h = ap pos (omega arith)
-past a (suc b) h = rw (le-ltb a (suc b) h)
-
-pub short-by : (a b : ℕ) → a < b → pos a -ℤ pos b ≡ negsuc (b - suc a)
-short-by a zero h = absurd (not-suc-le-zero h)
-short-by a (suc b) h = rw (lt-ltb a (suc b) h)
-
 -- ---- the gap is the quotient that the code works out
-forward : (earlier later : ℕ) → earlier ≤ later → hundredths earlier later ≡ pos ((400 * later + 1461 - 400 * earlier) / 2922)
-unfolding hundredths roundZ onMagnitude
-forward earlier later h =
-    rw (past later earlier h) (ap pos (near-to ((later - earlier) * 200) ((400 * later + 1461 - 400 * earlier) / 2922) (omega arith) (omega arith)))
+module _ (earlier later : ℕ) where
+  abbrev past : ℤ
+  past = (pos later -ℤ pos earlier) *ℤ pos 200
 
-negative : (m : ℕ) → 0 < m → roundZ (negℤ (pos m)) 1461 ≡ negℤ (pos (roundDiv m 1461))
-unfolding roundZ onMagnitude
-negative zero h = absurd (not-suc-le-zero h)
-negative (suc m) h = refl
+  -- a whole number of hundredths, times 1,461, less what is divided
+  apart : ℤ → ℤ
+  apart z = z *ℤ pos 1461 -ℤ past
 
-back : (earlier later q : ℕ) → later < earlier → roundDiv ((earlier - later) * 200) 1461 ≡ q → hundredths earlier later ≡ negℤ (pos q)
-unfolding hundredths
-back earlier later q h e =
-    let m : suc (earlier - suc later) * 200 ≡ (earlier - later) * 200 = omega arith in
-    rw (short-by later earlier h, m, negative ((earlier - later) * 200) (omega arith), e)
+  parts : (n : ℕ) → over (apart (pos n)) + later * 200 ≡ under (apart (pos n)) + (n * 1461 + earlier * 200)
+  unfolding over under apart
+  parts n =
+      let g = pos later -ℤ pos earlier in
+      omega (arith, diff (pos (n * 1461)) past, diff (pos later) (pos earlier), times-over g 200, times-under g 200)
 
--- a gap that is not refused at once is the quotient
-pub gap-is : (earlier later : ℕ) → 400 * earlier ≤ 400 * later + 1461 → hundredths earlier later ≡ pos ((400 * later + 1461 - 400 * earlier) / 2922)
-gap-is earlier later h =
-    ⊎-elim (λ (w : earlier ≤ later). forward earlier later w)
-    (λ (w : later < earlier). back earlier later 0 w (near-to ((earlier - later) * 200) 0 (omega arith) (omega arith)) ∙ ap pos (omega arith))
-    (le-or-lt earlier later)
+  -- a gap that is not refused at once is the quotient
+  pub gap-is : 400 * earlier ≤ 400 * later + 1461 → hundredths earlier later ≡ pos ((400 * later + 1461 - 400 * earlier) / 2922)
+  unfolding hundredths apart
+  gap-is h =
+      let q : ℕ = (400 * later + 1461 - 400 * earlier) / 2922 in
+      let by = parts q in
+      round-to past (pos q) 1461 (omega (arith, within-half (apart (pos q)) 1460 (omega arith) (omega arith)))
 
-below-zero : (q : ℕ) → 0 < q → goodHundredths (negℤ (pos q)) ≡ false
-below-zero zero h = absurd (not-suc-le-zero h)
-below-zero (suc q) h = refl
+  early : (z : ℤ) → 400 * later + 1461 < 400 * earlier → 2 * natAbs (apart z) ≤ 1461 → goodHundredths z ≡ false
+  early (pos n) h near = absurd (omega (arith, abs (apart (pos n)), parts n))
+  early (negsuc n) h near = refl
 
--- one that is refused at once is not allowed
-pub gap-early : (earlier later : ℕ) → 400 * later + 1461 < 400 * earlier → goodHundredths (hundredths earlier later) ≡ false
-gap-early earlier later h =
-    let q = (400 * (earlier - later) + 1461) / 2922 in
-    rw (back earlier later q (omega arith) (near-to ((earlier - later) * 200) q (omega arith) (omega arith))) (below-zero q (omega arith))
+  -- one that is refused at once is not allowed
+  pub gap-early : 400 * later + 1461 < 400 * earlier → goodHundredths (hundredths earlier later) ≡ false
+  unfolding hundredths apart
+  gap-early h = early (hundredths earlier later) h (round-near past 1461 (omega arith))
 
 -- ---- what is allowed
 pub allowed : (n : ℕ) → n ≤ 499 → goodHundredths (pos n) ≡ true

@@ -1,18 +1,16 @@
 -- What a reader may rely on, besides the contracts. Assumes nothing.
-use mathlib.Core.Path.{_≡_, refl, ap, subst, sym, _∙_}
+use mathlib.Core.Path.{_≡_, ap, subst, sym, _∙_}
 use mathlib.Core.Bool.{true, false}
 use mathlib.Core.Logic.{_≢_, ⊎-elim}
-use Prim.Native.Nat.{ℕ, suc, _+_, _-_, _*_, _/_, _^_, _≤_, _<_}
+use Prim.Native.Nat.{ℕ, _+_, _-_, _*_, _/_, _^_, _≤_, _<_}
 use native.Mathlib.Nat.{div-mul-le-self, lt-mul-div-succ, one-le-pow}
 use native.Mathlib.Omega.{arith}
 use lib.Dec.{lit<}
-use lib.IntN.{ℤ, pos, negsuc, natAbs, _+ℤ_, _-ℤ_, _*ℤ_}
+use lib.IntN.{ℤ, pos, natAbs, _+ℤ_, _-ℤ_, _*ℤ_}
 use borrow.Author.Tests.{le-leb, leb-true, leb-false}
 use Rattle.lists.proofs.Tests.{le-or-lt}
-use Rattle.money.specs.Rounding.{onMagnitude}
-use Rattle.money.proofs.Pounds.{abs-neg}
-use Rattle.money.proofs.Parts.{over, under, sum, diff, abs, times-over, times-under, to-eq}
-use Rattle.money.proofs.Rounded.{abs-times, round-near}
+use Rattle.money.proofs.Parts.{over, under, sum, abs, times-over, times-under}
+use Rattle.money.proofs.Nearest.{abs-on, abs-times, round-near, round-to}
 use Rattle.settlement.specs.Gap.{hundredths}
 use Rattle.settlement.specs.Exact.{NearExact}
 use Rattle.settlement.specs.Growth.{growsTo, growthOf, paidOf}
@@ -44,21 +42,8 @@ module _ (earlier later : ℕ) where
 
   -- and no other whole number is as near as a half
   pub only-nearest : (z : ℤ) → 2 * natAbs (z *ℤ pos 1461 -ℤ past) ≤ 1461 → z ≡ hundredths earlier later
-  only-nearest z h =
-      let n = hundredths earlier later in
-      to-eq z n
-      (omega (
-        arith,
-        nearest,
-        abs (z *ℤ pos 1461 -ℤ past),
-        abs (n *ℤ pos 1461 -ℤ past),
-        diff (z *ℤ pos 1461) past,
-        diff (n *ℤ pos 1461) past,
-        times-over z 1461,
-        times-under z 1461,
-        times-over n 1461,
-        times-under n 1461,
-      ))
+  unfolding hundredths
+  only-nearest z h = sym (round-to past z 1461 (omega arith))
 
 -- ---- the growth table
 -- The rule as an inequality.
@@ -102,11 +87,7 @@ near m n h =
           (lt-mul-div-succ (m * e) (lit< tt)) (failing n (e + 1) (rule .1));
     }
 
-magnitude-paid : (amount : ℤ) (n : ℕ) → natAbs (paidOf amount n) ≡ natAbs amount * growthOf n / 1000000000
-unfolding paidOf onMagnitude
-magnitude-paid (pos m) n = refl
-magnitude-paid (negsuc m) n = abs-neg (pos (suc m * growthOf n / 1000000000))
-
 -- The same of an amount of either sign, by its magnitude.
 pub near-paid : (amount : ℤ) (n : ℕ) → n < 500 → NearExact (natAbs amount) n (natAbs (paidOf amount n))
-near-paid amount n h = subst (λ (r : ℕ). NearExact (natAbs amount) n r) (sym (magnitude-paid amount n)) (near (natAbs amount) n h)
+unfolding paidOf
+near-paid amount n h = subst (λ (r : ℕ). NearExact (natAbs amount) n r) (sym (abs-on (λ (m : ℕ). m * growthOf n / 1000000000) amount)) (near (natAbs amount) n h)

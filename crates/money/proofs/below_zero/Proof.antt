@@ -1,29 +1,24 @@
+-- `money::below_zero` meets its contract. Assumes nothing.
 use borrow.Author.Needs.{needs}
-use native.Mathlib.Omega.{arith}
-use mathlib.Core.Path.{_≡_, ap, _∙_}
 use lib.IntN.{ℤ, negsuc, _-ℤ_}
-use mir.Syntax.{w64}
-use mir.Val.{toZ}
-use mir.Facts.{toZ-ofZ}
-use Rattle.money.proofs.Pounds.{held-wire}
-use Rattle.money.proofs.Signs.{from-pos}
+use mathlib.Core.Path.{ap, _∙_}
+use Rattle.money.proofs.Pounds.{wire}
+use Rattle.money.proofs.Signs.{turn-pos}
 use Rattle.money.proofs.below_zero.Statement.{statement}
 use Rattle.money.proofs.below_zero.Tie as tie
 
+credit-requires : tie.Need-credit-requires
+credit-requires c κs = search needs
+
+turned-requires : tie.Need-turned-requires
+turned-requires c κs = search needs
+
 returns : tie.Need-returns
-returns c = ap negsuc (omega arith)
-
-cast-result : tie.Need-cast-result
-cast-result c = search needs
-
-less : (c : tie.Else1) → negsuc 0 -ℤ toZ w64 (c .before .args .n) ≡ negsuc (c .before .args .n)
-less c = ap (λ (z : ℤ). negsuc 0 -ℤ z) (toZ-ofZ (cast-result c)) ∙ from-pos (c .before .args .n)
-
-sub-result : tie.Need-sub-result
-sub-result c = rw (less c) (record { sfits = omega arith })
-
-returns-2 : tie.Need-returns-2
-returns-2 c = rw (less c) (held-wire (negsuc (c .before .args .n)) (omega arith))
+returns c =
+    let k = c .before in
+    wire (c .turned .result) (c .turned .ok) ∙ c .turned .ensures ∙
+    ap (λ (z : ℤ). negsuc 0 -ℤ z) (wire (k .credit .result) (k .credit .ok) ∙ k .credit .ensures) ∙
+    turn-pos (k .before .args .n)
 
 pub below-zero-spec : {M : Type 1} → statement M
-below-zero-spec = tie.close (tie.spec returns cast-result sub-result returns-2)
+below-zero-spec = tie.close (tie.spec credit-requires turned-requires returns)

@@ -1,3 +1,4 @@
+-- `money::debit` meets its contract. Assumes nothing.
 use borrow.Author.Needs.{needs}
 use mathlib.Core.Path.{ap, _∙_}
 use Rattle.money.specs.Pounds.{heldZ}

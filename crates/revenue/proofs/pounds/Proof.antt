@@ -7,7 +7,7 @@ use lib.Dec.{lit<}
 use mir.Syntax.{w64}
 use mir.Val.{toZ, ofZ}
 use Rattle.money.proofs.Pounds.{wire}
-use Rattle.money.proofs.Rounded.{scaled-is, scaled-small}
+use Rattle.money.proofs.Nearest.{scaled-is, scaled-small}
 use Rattle.money.specs.Rounding.{scaledOf}
 use Rattle.revenue.specs.Revenue.{poundsOf}
 use Rattle.revenue.proofs.pounds.Statement.{statement}

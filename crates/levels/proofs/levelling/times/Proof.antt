@@ -4,7 +4,7 @@ use borrow.Author.Needs.{needs}
 use lib.Dec.{lit<}
 use mir.Facts.{toZ-ofZ}
 use Rattle.money.proofs.Pounds.{wire}
-use Rattle.money.proofs.Rounded.{scaled-is}
+use Rattle.money.proofs.Nearest.{scaled-is}
 use Rattle.levels.specs.Levels.{timesOf}
 use Rattle.levels.proofs.levelling.times.Statement.{statement}
 use Rattle.levels.proofs.levelling.times.Tie as tie

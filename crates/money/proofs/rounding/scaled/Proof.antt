@@ -1,17 +1,19 @@
+-- `money::rounding::scaled` meets its contract. Assumes nothing.
 use borrow.Author.Needs.{needs}
 use borrow.Author.Tests.{leb-true, leb-false}
-use native.Mathlib.Nat.{mul-le-mul}
+use native.Mathlib.Nat.{div-add-mod', mod-lt, mul-le-mul}
 use native.Mathlib.Omega.{arith}
-use Prim.Native.Nat.{ℕ, _*_, _^_, _≤_, _<_}
+use Prim.Native.Nat.{ℕ, _*_, _/_, _%_, _^_, _≤_, _<_}
 use mathlib.Core.Path.{_≡_, ap, sym, _∙_}
 use lib.Dec.{leb}
 use lib.IntN.{pos, negℤ, natAbs}
 use lib.Signed.{ltZ}
 use mir.Facts.{toZ-ofZ}
 use Rattle.lists.proofs.Tests.{not-no, not-yes}
-use Rattle.money.specs.Rounding.{roundDiv}
-use Rattle.money.proofs.Pounds.{wire, abs-neg, held-small}
-use Rattle.money.proofs.Rounded.{round-le-self, round-neg, round-nonneg, scaled-is, scaled-far, scaled-wide, scaled-over-none}
+use Rattle.money.specs.Pounds.{heldZ}
+use Rattle.money.specs.Rounding.{roundDiv, onMagnitude, scaledOf}
+use Rattle.money.proofs.Pounds.{wire}
+use Rattle.money.proofs.Nearest.{round-le-self, round-times, debit-on, credit-on, rounded-is, scaled-is, scaled-far, scaled-wide, scaled-over-none}
 use Rattle.money.proofs.rounding.scaled.Statement.{statement}
 use Rattle.money.proofs.rounding.scaled.Tie as tie
 
@@ -45,35 +47,62 @@ over-some c = let h = c .if3 .left in omega arith
 magnitude-requires : tie.Need-magnitude-requires
 magnitude-requires c κs = search needs
 
-product : (c : tie.After-magnitude) → c .magnitude .result * start (c .before) .args .by ≡ natAbs (start (c .before) .args .z) * start (c .before) .args .by
+-- the magnitude times the factor
+abbrev n : tie.After-magnitude → ℕ
+n c = natAbs (start (c .before) .args .z) * start (c .before) .args .by
+
+product : (c : tie.After-magnitude) → c .magnitude .result * start (c .before) .args .by ≡ n c
 product c =
     let s = start (c .before) in
     ap (λ (m : ℕ). m * s .args .by) (c .magnitude .ensures ∙ ap natAbs (toZ-ofZ (s .fits .z)))
 
-product-small : (c : tie.After-magnitude) → natAbs (start (c .before) .args .z) * start (c .before) .args .by ≤ 9000000000000000000
+product-small : (c : tie.After-magnitude) → n c ≤ 9000000000000000000
 product-small c = mul-le-mul (near (c .before .before .before)) (c .before .before .if2 .left)
 
-mul-round-div : tie.Need-mul-round-div
-mul-round-div c = record { fits = omega (arith, product c, product-small c) }
+mul-n : tie.Need-mul-n
+mul-n c = record { fits = omega (arith, product c, product-small c) }
 
-round-div-requires : tie.Need-round-div-requires
-round-div-requires c κs = (over-some (c .before), omega arith, omega (arith, product c, product-small c))
+div-rounded : tie.Need-div-rounded
+div-rounded c = search needs
 
--- ---- the magnitude, divided and rounded
-rounded : (c : tie.After-round-div) → c .round-div .result ≡ roundDiv (natAbs (start (c .before .before) .args .z) * start (c .before .before) .args .by) (start (c .before .before) .args .over)
-rounded c =
-    c .round-div .ensures ∙ ap (λ (m : ℕ). roundDiv m (start (c .before .before) .args .over)) (product (c .before))
+rem-rounded : tie.Need-rem-rounded
+rem-rounded c = search needs
 
-rounded-small : (c : tie.After-round-div) → c .round-div .result < 2 ^ 63
-rounded-small c =
-    let s = start (c .before .before) in
-    omega (arith, rounded c, product-small (c .before), round-le-self (natAbs (s .args .z) * s .args .by) (s .args .over) (over-some (c .before .before)))
+rounded-requires : tie.Need-rounded-requires
+rounded-requires c κs = search needs
+
+-- ---- divided and rounded
+module _ (c : tie.After-rounded) where
+  abbrev s : tie.Start
+  s = start (c .before .before)
+
+  abbrev f : ℕ → ℕ
+  f m = roundDiv (m * s .args .by) (s .args .over)
+
+  small : f (natAbs (s .args .z)) < 2 ^ 63
+  small = omega (arith, product-small (c .before), round-le-self (n (c .before)) (s .args .over) (over-some (c .before .before)))
+
+  figure : c .rounded .result ≡ f (natAbs (s .args .z))
+  figure =
+      let x : ℕ = c .before .magnitude .result * s .args .by in
+      let d = s .args .over in
+      let some = over-some (c .before .before) in
+      c .rounded .ensures ∙
+      rounded-is x (x / d) (x % d) d (sym (div-add-mod' x d)) (mod-lt x some) (omega arith)
+      (omega (arith, product (c .before), product-small (c .before), round-le-self x d some)) ∙
+      ap (λ (k : ℕ). roundDiv k d) (product (c .before))
+
+  given : onMagnitude f (s .args .z) ≡ scaledOf (s .args .z) (s .args .by) (s .args .over)
+  given =
+      let k = c .before .before in
+      sym (round-times (s .args .z) (s .args .by) (s .args .over) (over-some k)) ∙
+      sym (scaled-is (s .args .z) (s .args .by) (s .args .over) (near (k .before .before)) (k .before .if2 .left) (over-some k))
 
 is-negative-requires : tie.Need-is-negative-requires
 is-negative-requires c κs = search needs
 
-sign : (c : tie.After-is-negative) → c .is-negative .result ≡ ltZ (start (c .before .before .before) .args .z) (pos 0)
-sign c = rw (toZ-ofZ (start (c .before .before .before) .fits .z)) at (c .is-negative .ensures)
+sign : (c : tie.After-is-negative) → c .is-negative .result ≡ ltZ (s (c .before) .args .z) (pos 0)
+sign c = rw (toZ-ofZ (s (c .before) .fits .z)) at (c .is-negative .ensures)
 
 debit-requires : tie.Need-debit-requires
 debit-requires c κs = search needs
@@ -83,25 +112,19 @@ credit-requires c κs = search needs
 
 returns-4 : tie.Need-returns-4
 returns-4 c =
-    let n = c .before .before in
-    let m = n .before .round-div .result in
-    let k = n .before .before .before in
-    let s = start k in
-    wire (c .debit .result) (c .debit .ok) ∙ c .debit .ensures ∙
-    held-small (negℤ (pos m)) (rw (abs-neg (pos m)) (rounded-small (n .before))) ∙
-    ap (λ (x : ℕ). negℤ (pos x)) (rounded (n .before)) ∙
-    sym (round-neg (s .args .z) (s .args .by) (s .args .over) (over-some k) (sym (sign n) ∙ c .before .if4 .taken)) ∙
-    sym (scaled-is (s .args .z) (s .args .by) (s .args .over) (near (k .before .before)) (k .before .if2 .left) (over-some k))
+    let k = c .before .before in
+    let m = k .before in
+    wire (c .debit .result) (c .debit .ok) ∙ c .debit .ensures ∙ ap (λ (x : ℕ). heldZ (negℤ (pos x))) (figure m) ∙
+    debit-on (f m) (s m .args .z) (small m) (sym (sign k) ∙ c .before .if4 .taken) ∙
+    given m
 
 returns-5 : tie.Need-returns-5
 returns-5 c =
-    let n = c .before .before in
-    let m = n .before .round-div .result in
-    let k = n .before .before .before in
-    let s = start k in
-    wire (c .credit .result) (c .credit .ok) ∙ c .credit .ensures ∙ held-small (pos m) (rounded-small (n .before)) ∙ ap pos (rounded (n .before)) ∙
-    sym (round-nonneg (s .args .z) (s .args .by) (s .args .over) (sym (sign n) ∙ c .before .if4 .left)) ∙
-    sym (scaled-is (s .args .z) (s .args .by) (s .args .over) (near (k .before .before)) (k .before .if2 .left) (over-some k))
+    let k = c .before .before in
+    let m = k .before in
+    wire (c .credit .result) (c .credit .ok) ∙ c .credit .ensures ∙ ap (λ (x : ℕ). heldZ (pos x)) (figure m) ∙
+    credit-on (f m) (s m .args .z) (small m) (sym (sign k) ∙ c .before .if4 .left) ∙
+    given m
 
 pub scaled-spec : {M : Type 1} → statement M
 scaled-spec =
@@ -112,8 +135,10 @@ scaled-spec =
     returns-2
     returns-3
     magnitude-requires
-    mul-round-div
-    round-div-requires
+    mul-n
+    div-rounded
+    rem-rounded
+    rounded-requires
     is-negative-requires
     debit-requires
     credit-requires
