@@ -4,12 +4,12 @@ use mathlib.Core.Bool.{Bool, true, false, cond, not, _&&_}
 use mathlib.Core.List.{List, [], _∷_, map}
 use Prim.Native.Nat.{ℕ, zero, suc, _≤_, _<_}
 use native.Mathlib.Omega.{arith}
-use lib.Dec.{eqb, leb}
+use lib.Dec.{eqb}
 use lib.ListN.{length, getD}
-use lib.IntN.{ℤ, pos, _+ℤ_}
+use lib.IntN.{ℤ, pos}
 use lib.Signed.{ltZ, nonNeg}
 use Rattle.lists.specs.Lists.{all}
-use Rattle.lists.proofs.Tests.{and-left, and-right, and-made, not-no, not-yes}
+use Rattle.lists.proofs.Tests.{and-left, and-right, and-made, not-no}
 use Rattle.lists.proofs.Lists.{all-at}
 use Rattle.refusals.specs.declared.Refusal.{Refusal}
 use Rattle.refusals.specs.declared.Refusal.the-variants.{BadBook, BrokenLog, BadYear, TooLarge, FloorAboveCap}
@@ -17,18 +17,18 @@ use Rattle.refusals.specs.declared.Answer.the-variants as answer
 use Rattle.refusals.specs.Refusals.{lowest, accepted, numberOf}
 use Rattle.refusals.proofs.Laws.{all-clear, never-zero, refused-not}
 use Rattle.outage.specs.declared.Log.{Log}
-use Rattle.outage.specs.Log.{validLog, goodRegimeEnd}
-use Rattle.money.proofs.Pounds.{nonNeg-is}
-use Rattle.money.proofs.Nearest.{round-nonneg}
-use Rattle.calendar.specs.Years.{goodYear}
+use Rattle.outage.specs.Log.{validLog}
 use Rattle.year.specs.declared.Year.{Year}
-use Rattle.year.specs.Year.{goodYearRecord, goodPppi, goodRate, goodFactors, goodLines}
+use Rattle.year.specs.Year.{goodYearRecord}
+use Rattle.year.proofs.Says.{year-says}
 use Rattle.levels.specs.declared.Book.{Book}
 use Rattle.levels.specs.declared.measuring.Availability.{Availability}
 use Rattle.levels.specs.declared.measuring.Availability.the-variants as availability
-use Rattle.levels.specs.Book.{bookHolds, goodBook, goodSum, goodTarget, goodFactor, small, capSum, floorSum}
+use Rattle.levels.specs.Book.{bookHolds, goodBook}
 use Rattle.levels.specs.Availability.{availabilityRows, availabilityNumber, AvailabilityGives}
-use Rattle.levels.specs.Levels.{timesOf, levelOf, capLevel, floorOf, levelFits}
+use Rattle.levels.specs.Levels.{capLevel, floorOf, levelFits}
+use Rattle.levels.proofs.Says.{held-good}
+use Rattle.levels.proofs.Ranges.{cap-good, floor-good}
 use Rattle.revenue.specs.Revenue.{assessedRevenue}
 use Rattle.balances.specs.declared.assessing.Assessment.{Assessment}
 use Rattle.balances.specs.declared.assessing.Assessment.the-variants.{Refused}
@@ -36,47 +36,6 @@ use Rattle.balances.specs.Balance.{goodIndex, goodAmount, goodAmounts}
 use Rattle.balances.specs.Assessment.{ARN, CLN, FLN, WPAN, assessRows, balancesWithin, figuresOf, goodYearly, noFigures, notNegative, assessNumber, AssessGives}
 use Rattle.assessment.specs.Period.{periodRows, yearFits, yearlyOf, yearsGood, onePeriod, PeriodGives}
 use Rattle.assessment.proofs.Years.{noYear, map-at}
-
--- ---- levels are not negative
-times-good : (z : ℤ) (factor : ℕ) → nonNeg z ≡ true → nonNeg (timesOf z factor) ≡ true
-unfolding timesOf
-times-good z factor h = ap nonNeg (round-nonneg z factor 10000 (not-yes (ltZ z (pos 0)) (sym (nonNeg-is z) ∙ h)))
-
-level-good : (partial : ℕ) (sum : ℤ) (incentive pppi : ℕ) → nonNeg sum ≡ true → nonNeg (levelOf partial sum incentive pppi) ≡ true
-unfolding levelOf
-level-good partial sum incentive pppi h =
-    times-good (timesOf (timesOf sum partial) incentive) pppi (times-good (timesOf sum partial) incentive (times-good sum partial h))
-
-sum-good : (p c o : ℤ) → goodSum p c o ≡ true → nonNeg (p +ℤ c +ℤ o) ≡ true
-sum-good p c o g =
-    let s = p +ℤ c +ℤ o in
-    let rest = small o && (nonNeg s && small s) in
-    let t = and-right (small c) rest (and-right (nonNeg p && small p) (small c && rest) g) in
-    and-left (nonNeg s) (small s) (and-right (small o) (nonNeg s && small s) t)
-
-sums-good : (b : Book) → goodBook b ≡ true → (nonNeg (capSum b) ≡ true) × (nonNeg (floorSum b) ≡ true)
-unfolding goodBook
-sums-good b g =
-    let f = goodFactor (b .«miss_factor») in
-    let c = goodSum (b .pcl) (b .pcac) (b .orac) in
-    let d = goodSum (b .pfl) (b .pcaf) (b .oraf) in
-    let t = goodTarget (b .«first_target») in
-    let u = goodTarget (b .«last_target») in
-    let p = and-right (goodRegimeEnd (b .«regime_end»)) (t && (u && (f && (c && d)))) g in
-    let r = and-right f (c && d) (and-right u (f && (c && d)) (and-right t (u && (f && (c && d))) p)) in
-    (sum-good (b .pcl) (b .pcac) (b .orac) (and-left c d r), sum-good (b .pfl) (b .pcaf) (b .oraf) (and-right c d r))
-
--- ---- a year in range has an index and a W in range
-year-index : (y : Year) → goodYearRecord y ≡ true → goodIndex (y .pppi) ≡ true
-year-index y g =
-    let rest = goodRate (y .rate) && (leb (y .aic) 20000 && (leb (y .pyc) 10000 && leb (y .pyf) 10000)) in
-    let f = and-left (goodFactors (y .number) (y .pppi) (y .rate) (y .aic) (y .pyc) (y .pyf)) (goodAmount (y .within) && goodLines (y .lines) (y .«line_count»)) g in
-    and-left (goodPppi (y .pppi)) rest (and-right (goodYear (y .number)) (goodPppi (y .pppi) && rest) f)
-
-year-within : (y : Year) → goodYearRecord y ≡ true → goodAmount (y .within) ≡ true
-year-within y g =
-    and-left (goodAmount (y .within)) (goodLines (y .lines) (y .«line_count»))
-    (and-right (goodFactors (y .number) (y .pppi) (y .rate) (y .aic) (y .pyc) (y .pyf)) (goodAmount (y .within) && goodLines (y .lines) (y .«line_count»)) g)
 
 -- ---- amounts taken year by year
 module _ (f : Year → ℤ) (years : List Year) where
@@ -87,7 +46,7 @@ module _ (f : Year → ℤ) (years : List Year) where
   amounts-good (suc n) h g a =
       and-made
       (and-made
-      (ap goodIndex (map-at (λ (y : Year). y .pppi) years n noYear 0 h) ∙ year-index (getD years n noYear) (all-at goodYearRecord noYear years g n h))
+      (ap goodIndex (map-at (λ (y : Year). y .pppi) years n noYear 0 h) ∙ year-says (getD years n noYear) (all-at goodYearRecord noYear years g n h) .pppi)
       (ap goodAmount (map-at f years n noYear (pos 0) h) ∙ a n h))
       (amounts-good n (omega arith) g a)
 
@@ -102,7 +61,6 @@ module _ (book : Book) (years : List Year) (log : Log) where
       → goodYearly (yearlyOf book years log) 5 ≡ true
   amounts-in-range len b g f =
       let long : 5 ≤ length years = omega arith in
-      let sums = sums-good book b in
       let fits : (k : ℕ) → k < length years → yearFits book log (getD years k noYear) ≡ true = λ k h. all-at (yearFits book log) noYear years f k h in
       let caps : (k : ℕ) → k < length years → levelFits (capLevel book (getD years k noYear)) ≡ true =
       λ k h. and-left (levelFits (capLevel book (getD years k noYear))) (levelFits (floorOf book (getD years k noYear) log) && levelFits (assessedRevenue (getD years k noYear))) (fits k h) in
@@ -114,14 +72,14 @@ module _ (book : Book) (years : List Year) (log : Log) where
       (and-made
       (amounts-good (capLevel book) years 5 long g caps)
       (and-made
-      (amounts-positive (capLevel book) years 5 long (λ k h. level-good _ (capSum book) _ _ (sums .0)))
+      (amounts-positive (capLevel book) years 5 long (λ k h. cap-good book b (getD years k noYear)))
       (and-made
       (amounts-good (λ (y : Year). floorOf book y log) years 5 long g
       (λ k h. and-left (levelFits (floorOf book (getD years k noYear) log)) (levelFits (assessedRevenue (getD years k noYear))) (others k h)))
       (and-made
-      (amounts-positive (λ (y : Year). floorOf book y log) years 5 long (λ k h. level-good _ (floorSum book) _ _ (sums .1)))
+      (amounts-positive (λ (y : Year). floorOf book y log) years 5 long (λ k h. floor-good book b (getD years k noYear) log))
       (amounts-good (λ (y : Year). y .within) years 5 long g
-      (λ k h. year-within (getD years k noYear) (all-at goodYearRecord noYear years g k h)))))))
+      (λ k h. year-says (getD years k noYear) (all-at goodYearRecord noYear years g k h) .within))))))
 
   -- ---- what is given
   -- a refusal's number says that nothing is given
@@ -166,7 +124,7 @@ module _ (book : Book) (years : List Year) (log : Log) where
         → (r : Assessment) → AssessGives (yearlyOf book years log) r → PeriodGives book years log r
     gives-assessed len g h f r a =
         let y = yearlyOf book years log in
-        let range = amounts-in-range len (and-left (goodBook book) (eqb (book .«regime_end») (log .«regime_end»)) b) h f in
+        let range = amounts-in-range len (held-good book (log .«regime_end») b) h f in
         let n : lowest (assessRows y) ≡ lowest (periodRows book years log) =
         same-rows (bookHolds book (log .«regime_end»)) (validLog log) (yearsGood years) (all (yearFits book log) years) (goodYearly y 5) (balancesWithin y 5) (ltZ (CLN y 5) (FLN y 5)) b v g f range in
         (a .0 ∙ n, a .1 ∙ ap (λ (k : ℕ). cond (eqb k 0) (figuresOf (ARN y 5) (CLN y 5) (FLN y 5) (WPAN y 5)) noFigures) n)
@@ -192,7 +150,7 @@ period-assessed book years log r len g n =
     let b : bookHolds book (log .«regime_end») ≡ true = not-no (bookHolds book (log .«regime_end»)) (clear .0) in
     let f : (all (yearFits book log) years && balancesWithin y 5) ≡ true = not-no (all (yearFits book log) years && balancesWithin y 5) (clear .1 .1 .1 .0) in
     let range : goodYearly y 5 ≡ true =
-    amounts-in-range book years log len (and-left (goodBook book) (eqb (book .«regime_end») (log .«regime_end»)) b)
+    amounts-in-range book years log len (held-good book (log .«regime_end») b)
     (good-records years (not-no (yearsGood years) (clear .1 .1 .0))) (and-left (all (yearFits book log) years) (balancesWithin y 5) f) in
     let zero-too : lowest (assessRows y) ≡ 0 = simp (range, and-right (all (yearFits book log) years) (balancesWithin y 5) f, clear .1 .1 .1 .1 .0) in (
       n ∙ sym zero-too,

@@ -11,16 +11,10 @@ use lib.ListN.{length, getD, take, drop, set, replicate, length-map}
 use lib.Seq.{take-all}
 use lib.IntN.{pos}
 use Rattle.lists.specs.Lists.{all}
-use Rattle.lists.proofs.Tests.{not-no}
 use Rattle.lists.proofs.Places.{drop-next, turned-next}
-use Rattle.refusals.specs.declared.Refusal.{Refusal}
-use Rattle.refusals.specs.declared.Answer.{Answer}
-use Rattle.refusals.specs.declared.Answer.the-variants as answer
-use Rattle.refusals.specs.Refusals.{lowest, answerNumber}
-use Rattle.refusals.proofs.Laws.{all-clear, never-zero}
 use Rattle.outage.specs.declared.Log.{Log}
 use Rattle.year.specs.declared.Year.{Year}
-use Rattle.year.specs.Year.{goodYearRecord, yearRows, CheckGives}
+use Rattle.year.specs.Year.{goodYearRecord}
 use Rattle.levels.specs.declared.Book.{Book}
 use Rattle.levels.specs.Levels.{capLevel, floorOf}
 use Rattle.revenue.specs.Revenue.{assessedRevenue}
@@ -49,20 +43,6 @@ pub map-at : {A B : Type 0} (f : A → B) (l : List A) (n : ℕ) (d : A) (e : B)
 map-at f [] n d e h = absurd (not-suc-le-zero h)
 map-at f (x ∷ xs) zero d e h = refl
 map-at f (x ∷ xs) (suc n) d e h = map-at f xs n d e (le-of-suc-le-suc h)
-
--- ---- a year's check
-module _ (y : Year) (a : Answer) (g : CheckGives y a) where
-  pub year-good : a ≡ answer.Done → goodYearRecord y ≡ true
-  year-good e = not-no (goodYearRecord y) (all-clear (yearRows y) (sym g ∙ ap answerNumber e) .0)
-
-  pub year-bad : (why : Refusal) → a ≡ answer.Refused why → goodYearRecord y ≡ false
-  year-bad why e = by (goodYearRecord y) refl
-    where
-      by : (t : Bool) → goodYearRecord y ≡ t → t ≡ false
-      by false f = refl
-      by true f =
-          let n : lowest (yearRows y) ≡ 0 = simp f in
-          absurd (not-suc-le-zero {n = 0} (omega (arith, never-zero why, sym (ap answerNumber e) ∙ g ∙ n)))
 
 -- ---- the years from place k on
 abbrev pub goodRest : ℕ → ℕ → List Year → Bool

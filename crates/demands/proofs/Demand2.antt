@@ -22,6 +22,7 @@ use Rattle.outage.specs.Log.{mostMw, validLog, live, lostEnergy}
 use Rattle.outage.specs.Calls.{lostFigure, LostGives}
 use Rattle.year.specs.declared.Year.{Year}
 use Rattle.year.specs.Year.{goodYearRecord}
+use Rattle.year.proofs.Says.{year-says}
 use Rattle.levels.specs.declared.Book.{Book}
 use Rattle.levels.specs.declared.measuring.Availability.{Availability}
 use Rattle.levels.specs.declared.measuring.Target.{Target}
@@ -29,7 +30,6 @@ use Rattle.levels.specs.declared.levelling.Levels.{Levels}
 use Rattle.levels.specs.Book.{bookHolds, targetOf}
 use Rattle.levels.specs.Availability.{availabilityIn, meetsTarget, availabilityRows, availabilityNumber, availabilityFigure, AvailabilityGives, targetNumber, targetMet, TargetGives}
 use Rattle.levels.specs.Levels.{timesOf, levelOf, aifOf, capLevel, floorLevel, floorOf, levelsRows, levelsNumber, capFigure, floorFigure, LevelsGives}
-use Rattle.levels.proofs.Ranges.{year-says}
 use Rattle.revenue.specs.Revenue.{assessedRevenue, revenueRows, revenueNumber, revenueFigure}
 use Rattle.balances.specs.declared.assessing.Yearly.{Yearly}
 use Rattle.balances.specs.declared.assessing.Assessment.{Assessment}

@@ -5,20 +5,20 @@ use mathlib.Core.List.{[], _∷_}
 use Prim.Native.Nat.{ℕ, _<_}
 use native.Mathlib.Omega.{arith}
 use borrow.Author.Tests.{eq-eqb}
-use lib.Dec.{eqb}
 use lib.IntN.{ℤ, pos}
-use Rattle.lists.proofs.Tests.{and-left, not-no}
+use Rattle.lists.proofs.Tests.{not-no}
 use Rattle.refusals.specs.declared.Refusal.{Refusal}
 use Rattle.refusals.specs.declared.Refusal.the-variants.{BadBook, BrokenLog, BadYear, TooLarge}
 use Rattle.refusals.specs.declared.Answer.{Answer}
 use Rattle.refusals.specs.declared.Answer.the-variants as answer
 use Rattle.refusals.specs.Refusals.{lowest, accepted, numberOf, answerNumber}
-use Rattle.refusals.proofs.Laws.{all-clear, done-clear, never-zero, refused-not}
+use Rattle.refusals.proofs.Laws.{all-clear, never-zero, refused-not}
 use Rattle.calendar.specs.Years.{goodYear}
 use Rattle.outage.specs.declared.Log.{Log}
 use Rattle.outage.specs.Log.{validLog}
 use Rattle.year.specs.declared.Year.{Year}
-use Rattle.year.specs.Year.{goodYearRecord, yearRows, CheckGives}
+use Rattle.year.specs.Year.{goodYearRecord, CheckGives}
+use Rattle.year.proofs.Says.{year-says, checked-bad}
 use Rattle.levels.specs.declared.Book.{Book}
 use Rattle.levels.specs.declared.measuring.Target.{Target}
 use Rattle.levels.specs.declared.measuring.Target.the-variants as target
@@ -26,7 +26,7 @@ use Rattle.levels.specs.declared.levelling.Levels.the-variants as levels
 use Rattle.levels.specs.Book.{bookHolds, goodBook}
 use Rattle.levels.specs.Availability.{meetsTarget, availabilityRows, targetNumber, targetMet, TargetGives}
 use Rattle.levels.specs.Levels.{aifOf, capLevel, floorLevel, floorOf, levelFits, levelsRows, LevelsGives}
-use Rattle.levels.proofs.Ranges.{year-says}
+use Rattle.levels.proofs.Says.{held-good}
 
 -- a row that stops the target stops the levels, with the same number: a bad number makes a bad year
 same-stop : (b v n y t : Bool) → (y ≡ true → n ≡ true)
@@ -67,7 +67,7 @@ module _ (book : Book) (y : Year) (log : Log) (t : Target) (g : TargetGives book
   valid = not-no (validLog log) (all-clear (availabilityRows book log (y .number)) rows-clear .1 .0)
 
   pub good : goodBook book ≡ true
-  good = and-left (goodBook book) (eqb (book .«regime_end») (log .«regime_end»)) held
+  good = held-good book (log .«regime_end») held
 
   pub met-is : targetMet t ≡ meetsTarget book log (y .number)
   met-is =
@@ -75,15 +75,9 @@ module _ (book : Book) (y : Year) (log : Log) (t : Target) (g : TargetGives book
 
   -- the year is refused
   pub gives-no-year : (a : Answer) (why : Refusal) → CheckGives y a → a ≡ answer.Refused why → LevelsGives book y log (levels.Refused why)
-  gives-no-year a why c e = by (goodYearRecord y) refl (sym (ap answerNumber e) ∙ c)
-    where
-      by : (b : Bool) → goodYearRecord y ≡ b → numberOf why ≡ cond (not b) 9 0 → LevelsGives book y log (levels.Refused why)
-      by true k n = absurd (omega (arith, never-zero why))
-      by false k n = gives-none book y log why (n ∙ simp (held, valid, k))
-
-  -- the year is good
-  pub year-good : (a : Answer) → CheckGives y a → a ≡ answer.Done → goodYearRecord y ≡ true
-  year-good a c e = not-no (goodYearRecord y) (all-clear (yearRows y) (done-clear a (yearRows y) c e) .0)
+  gives-no-year a why c e =
+      let bad = checked-bad y a c why e in
+      gives-none book y log why (sym (ap answerNumber e) ∙ c ∙ simp (held, valid, bad))
 
   -- ---- the levels, and whether they fit
   module _ (k : goodYearRecord y ≡ true) where

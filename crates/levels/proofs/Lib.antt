@@ -1,4 +1,5 @@
--- Laws on ranges, availability and levels, and that each call answers in one way.
+-- What a book in range says, laws on levels and availability, and that each call answers in one way.
+pub mod Says
 pub mod Ranges
 pub mod Only
 pub mod Measured

@@ -1,6 +1,6 @@
 -- The figures of a year that was read, and that what is printed of it has room. Assumes nothing.
 use mathlib.Core.Path.{_≡_, refl, sym, ap, _∙_}
-use mathlib.Core.Bool.{Bool, true, false, cond, not, _&&_}
+use mathlib.Core.Bool.{Bool, true, false, cond, not}
 use mathlib.Core.List.{List, []}
 use Prim.Native.Nat.{ℕ, zero, suc, _+_, _-_, _^_, _≤_, _<_}
 use native.Mathlib.Nat.{not-suc-le-zero}
@@ -9,17 +9,18 @@ use borrow.Author.Tests.{leb-true, eqb-true, eq-eqb, ne-eqb}
 use lib.Dec.{leb, eqb}
 use lib.IntN.{ℤ, pos, natAbs}
 use lib.ListN.{length, length-append}
-use Rattle.lists.proofs.Tests.{and-left, and-right, not-no}
+use Rattle.lists.proofs.Tests.{not-no}
 use Rattle.refusals.specs.Refusals.{accepted, lowest, numberOf}
 use Rattle.refusals.specs.declared.Refusal.{Refusal}
 use Rattle.refusals.proofs.Laws.{all-clear, never-zero}
-use Rattle.calendar.specs.Years.{isLeap, daysIn, daysTo, yearStart, yearEnd, lastYear, goodYear, firstOf, endOf}
+use Rattle.calendar.specs.Years.{isLeap, daysIn, daysTo, yearStart, yearEnd, lastYear, firstOf, endOf}
 use Rattle.calendar.proofs.Laws.{year-two, last-start, year-within}
 use Rattle.outage.specs.Log.{lastRegimeEnd}
 use Rattle.outage.specs.Calls.{lostOf}
 use Rattle.outage.proofs.Most.{lost-given, valid-stretch}
 use Rattle.year.specs.declared.Year.{Year}
-use Rattle.year.specs.Year.{goodPppi, goodRate, goodAmount, goodFactors, goodLines, goodYearRecord}
+use Rattle.year.specs.Year.{goodYearRecord}
+use Rattle.year.proofs.Says.{YearSays, year-says}
 use Rattle.revenue.specs.declared.Revenue.the-variants.{Pounds, Refused}
 use Rattle.revenue.specs.Revenue.{assessedRevenue, revenueRows, RevenueGives}
 use Rattle.text.specs.declared.Text.{Text}
@@ -47,16 +48,8 @@ year-long (suc (suc n)) h = omega (arith, days-most (2019 + suc n))
 
 -- ---- a valid year
 module _ (y : Year) (v : validYear y ≡ true) where
-  pub number-good : goodYear (y .number) ≡ true
-  number-good =
-      and-left (goodYear (y .number)) (goodPppi (y .pppi) && (goodRate (y .rate) && (leb (y .aic) 20000 && (leb (y .pyc) 10000 && leb (y .pyf) 10000))))
-      (and-left (goodFactors (y .number) (y .pppi) (y .rate) (y .aic) (y .pyc) (y .pyf)) (goodAmount (y .within) && goodLines (y .lines) (y .«line_count»)) (year-record y v))
-
-  from-one : 1 ≤ y .number
-  from-one = leb-true 1 (y .number) (and-left (leb 1 (y .number)) (leb (y .number) lastYear) number-good)
-
-  to-last : y .number ≤ 25
-  to-last = leb-true (y .number) lastYear (and-right (leb 1 (y .number)) (leb (y .number) lastYear) number-good)
+  said : YearSays y
+  said = year-says y (year-record y v)
 
   abbrev first : ℕ
   first = yearStart (y .number)
@@ -65,14 +58,14 @@ module _ (y : Year) (v : validYear y ≡ true) where
   end = yearEnd (y .number) lastRegimeEnd
 
   inside : (first ≤ end) × (end ≤ lastRegimeEnd)
-  inside = year-within lastRegimeEnd (y .number) (omega arith) from-one to-last
+  inside = year-within lastRegimeEnd (y .number) (omega arith) (said .from-first) (said .to-last)
 
   -- what the calendar gives for it
   pub first-is : firstOf (y .number) ≡ first
-  first-is = rw number-good
+  first-is = rw (said .number)
 
   pub end-is : endOf (y .number) lastRegimeEnd ≡ end
-  end-is = rw number-good
+  end-is = rw (said .number)
 
   -- what the log gives for it
   pub lost-is : lostOf (y .log) first end ≡ lostInYear y
@@ -84,7 +77,7 @@ module _ (y : Year) (v : validYear y ≡ true) where
   -- ---- its four lines have room
   long : (t : Bool) → eqb (y .number) lastYear ≡ t → cond t lastRegimeEnd (yearStart (suc (y .number))) ≤ first + 1052640
   long true e = omega (arith, ap yearStart (eqb-true (y .number) lastYear e), last-start)
-  long false e = omega (arith, year-long (y .number) from-one)
+  long false e = omega (arith, year-long (y .number) (said .from-first))
 
   lost-small : lostInYear y < 10 ^ 10
   lost-small = omega (arith, valid-stretch (y .log) (log-valid y v) first end, long (eqb (y .number) lastYear) refl)
@@ -95,7 +88,7 @@ module _ (y : Year) (v : validYear y ≡ true) where
   sheet-room : (z : ℤ) → natAbs z < 10 ^ 10 → length (sheetOf (y .number) (lostInYear y) (lostAfter y) z) ≤ 64
   unfolding sheetOf
   sheet-room z h =
-      simp length-append (omega (arith, digits-few 20 (y .number) 2 (omega arith) (omega (arith, to-last)), digits-few 20 (lostInYear y) 10 (omega arith) lost-small, digits-few 20 (lostAfter y) 11 (omega arith) after-small, signed-few z 10 (omega arith) h))
+      simp length-append (omega (arith, digits-few 20 (y .number) 2 (omega arith) (omega (arith, said .to-last)), digits-few 20 (lostInYear y) 10 (omega arith) lost-small, digits-few 20 (lostAfter y) 11 (omega arith) after-small, signed-few z 10 (omega arith) h))
 
 -- ---- what is printed of a year, by what its revenue is answered
 pub record Assessed (y : Year) (z : ℤ) : Type 0 where

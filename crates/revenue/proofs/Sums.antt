@@ -1,59 +1,30 @@
--- Good lines, what each counts, and the sum of the first of them. Assumes nothing.
+-- What each line counts, and the sum of the first of them. Assumes nothing.
 use mathlib.Core.Path.{_≡_, refl, sym, ap, _∙_}
-use mathlib.Core.Bool.{Bool, true, false, cond, _&&_, _||_}
+use mathlib.Core.Bool.{Bool, true, false, cond}
 use mathlib.Core.List.{List, [], _∷_, _++_}
 use Prim.Native.Nat.{ℕ, _+_, _*_, _≤_, _<_}
 use native.Mathlib.Omega.{arith}
 use native.Mathlib.Numerals.{add-one}
-use lib.Dec.{leb}
 use lib.IntN.{ℤ, pos, negℤ, natAbs, _+ℤ_, +ℤ-idl, +ℤ-idr, +ℤ-assoc}
-use lib.ListN.{length, take, drop, getD}
+use lib.ListN.{length, take, getD}
 use lib.Seq.{take-suc, getD-take, length-take-le}
-use lib.Signed.{ltZ, nonNeg}
-use borrow.Author.Tests.{leb-true, lt-ltb, le-ltb, eq-eqb, ne-eqb}
-use Rattle.lists.specs.Lists.{all}
-use Rattle.lists.proofs.Tests.{and-left, and-right}
-use Rattle.lists.proofs.Lists.{all-at, all-as}
+use lib.Signed.{ltZ}
+use borrow.Author.Tests.{lt-ltb, le-ltb, eq-eqb, ne-eqb}
+use Rattle.lists.proofs.Lists.{all-at}
 use Rattle.money.specs.Pounds.{heldZ}
 use Rattle.money.proofs.Pounds.{abs-add, held-small}
 use Rattle.year.specs.declared.Line.{Line}
-use Rattle.year.specs.Year.{goodAmount, goodLine, goodLines, goodRate, eitherSign, isZeroLine, lineSlots, zeroLine}
+use Rattle.year.specs.Year.{goodLine, zeroLine}
+use Rattle.year.proofs.Says.{line-says, LinesSay}
 use Rattle.revenue.specs.Revenue.{poundsOf, atLeastZero, countedAs, countedOf, summedOf, NAR}
-use Rattle.revenue.proofs.Terms.{known, total-is}
+use Rattle.revenue.proofs.Terms.{total-is}
 
--- ---- good lines
-pub rate-small : (rate : ℕ) → goodRate rate ≡ true → rate ≤ 200000
-rate-small rate e = leb-true rate 200000 (and-right (leb 1 rate) (leb rate 200000) e)
-
-good-known : (l : Line) → goodLine l ≡ true → known l ≡ true
-good-known l e = and-left (known l) (leb (l .currency) 1 && (goodAmount (l .amount) && (eitherSign (l .kind) || nonNeg (l .amount)))) e
-
-good-amount : (l : Line) → goodLine l ≡ true → natAbs (l .amount) ≤ 1000000000
-good-amount l e =
-    let signed = eitherSign (l .kind) || nonNeg (l .amount) in
-    leb-true (natAbs (l .amount)) 1000000000
-    (and-left (goodAmount (l .amount)) signed
-    (and-right (leb (l .currency) 1) (goodAmount (l .amount) && signed)
-    (and-right (known l) (leb (l .currency) 1 && (goodAmount (l .amount) && signed)) e)))
-
-module _ (lines : List Line) (count : ℕ) (good : goodLines lines count ≡ true) where
-  pub count-small : count ≤ 64
-  count-small = leb-true count lineSlots (and-left (leb count lineSlots) (all goodLine (take count lines) && all isZeroLine (drop count lines)) good)
-
-  all-good : all goodLine (take count lines) ≡ true
-  all-good =
-      and-left (all goodLine (take count lines)) (all isZeroLine (drop count lines))
-      (and-right (leb count lineSlots) (all goodLine (take count lines) && all isZeroLine (drop count lines)) good)
-
-  pub all-known : all known (take count lines) ≡ true
-  all-known = all-as goodLine known (take count lines) all-good good-known
-
-  -- a line below the count has a small amount
-  pub amount-small : length lines ≡ 64 → (k : ℕ) → k < count → natAbs (getD lines k zeroLine .amount) ≤ 1000000000
-  amount-small len k h =
-      let n : length (take count lines) ≡ count = length-take-le count lines (omega (arith, count-small)) in
-      let g : goodLine (getD (take count lines) k zeroLine) ≡ true = all-at goodLine zeroLine (take count lines) all-good k (omega arith) in
-      good-amount (getD lines k zeroLine) (rw (getD-take count lines k zeroLine h) at g)
+-- ---- a line below the count of good lines has a small amount
+pub amount-small : (lines : List Line) (count : ℕ) → LinesSay lines count → length lines ≡ 64 → (k : ℕ) → k < count → natAbs (getD lines k zeroLine .amount) ≤ 1000000000
+amount-small lines count s len k h =
+    let n : length (take count lines) ≡ count = length-take-le count lines (omega (arith, s .few)) in
+    let g : goodLine (getD (take count lines) k zeroLine) ≡ true = all-at goodLine zeroLine (take count lines) (s .good) k (omega arith) in
+    line-says (getD lines k zeroLine) (rw (getD-take count lines k zeroLine h) at g) .amount
 
 -- ---- what a line counts, by its kind
 module _ (cmr : Bool) (kind : ℕ) (amount : ℤ) where
@@ -126,7 +97,7 @@ unfolding atLeastZero
 lifted-small z = lifted (ltZ z (pos 0)) z
 
 -- both sums, of all good lines, are the total
-pub added-total : {rate : ℕ} {a b : ℤ} (lines : List Line) (count : ℕ) → goodLines lines count ≡ true → Added false rate lines count a → Added true rate lines count b → heldZ (a +ℤ atLeastZero b) ≡ NAR rate (take count lines)
-added-total {rate} {a} {b} lines count good others cmr =
-    held-small (a +ℤ atLeastZero b) (omega (arith, others .small, cmr .small, count-small lines count good, abs-add a (atLeastZero b), lifted-small b))
-    ∙ rw (others .is, cmr .is) (total-is rate (take count lines) (all-known lines count good))
+pub added-total : {rate : ℕ} {a b : ℤ} (lines : List Line) (count : ℕ) → LinesSay lines count → Added false rate lines count a → Added true rate lines count b → heldZ (a +ℤ atLeastZero b) ≡ NAR rate (take count lines)
+added-total {rate} {a} {b} lines count s others cmr =
+    held-small (a +ℤ atLeastZero b) (omega (arith, others .small, cmr .small, s .few, abs-add a (atLeastZero b), lifted-small b))
+    ∙ rw (others .is, cmr .is) (total-is rate (take count lines) (s .good))

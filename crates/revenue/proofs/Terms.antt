@@ -1,15 +1,16 @@
 -- What the lines count, added up one by one, is the licence's total. Assumes nothing.
 use mathlib.Core.Path.{_≡_, refl, sym, ap, _∙_}
-use mathlib.Core.Bool.{Bool, true, false, cond, _&&_, _||_}
+use mathlib.Core.Bool.{true, false, cond, _||_}
 use mathlib.Core.List.{List, [], _∷_}
 use Prim.Native.Nat.{ℕ, zero, suc, _≤_}
 use native.Mathlib.Omega.{arith}
-use lib.Dec.{leb, ltb, eqb}
+use lib.Dec.{ltb, eqb}
 use lib.IntN.{ℤ, pos, negℤ, _+ℤ_, _-ℤ_, +ℤ-idl, +ℤ-idr, +ℤ-assoc, +ℤ-comm, negℤ-+ℤ}
-use borrow.Author.Tests.{leb-true}
 use Rattle.lists.specs.Lists.{all}
 use Rattle.lists.proofs.Tests.{and-left, and-right}
 use Rattle.year.specs.declared.Line.{Line}
+use Rattle.year.specs.Year.{goodLine}
+use Rattle.year.proofs.Says.{line-says}
 use Rattle.revenue.specs.Revenue.{poundsOf, sumOfKind, atLeastZero, countedAs, countedOf, summedOf, NAR}
 
 -- ---- sums
@@ -108,28 +109,24 @@ one-line p =
     (simp nothing)
 
 -- ---- the lines
--- a line has one of the kinds 1 to 11
-abbrev pub known : Line → Bool
-known l = leb 1 (l .kind) && leb (l .kind) 11
-
 module _ (rate : ℕ) where
   pub cmr-is : (ls : List Line) → summedOf true rate ls ≡ sumOfKind 2 rate ls
   unfolding summedOf sumOfKind countedOf countedAs
   cmr-is [] = refl
   cmr-is (l ∷ ls) = ap (λ (z : ℤ). cond (eqb (l .kind) 2) (poundsOf rate l) (pos 0) +ℤ z) (cmr-is ls)
 
-  pub others-is : (ls : List Line) → all known ls ≡ true → summedOf false rate ls ≡ others (λ k. sumOfKind k rate ls)
+  pub others-is : (ls : List Line) → all goodLine ls ≡ true → summedOf false rate ls ≡ others (λ k. sumOfKind k rate ls)
   unfolding summedOf sumOfKind countedOf countedAs
   others-is [] e = refl
   others-is (l ∷ ls) e =
-      let g = and-left (known l) (all known ls) e in
+      let s = line-says l (and-left (goodLine l) (all goodLine ls) e) in
       ap (λ (z : ℤ). z +ℤ summedOf false rate ls)
-      (one-line (poundsOf rate l) (l .kind) (leb-true 1 (l .kind) (and-left (leb 1 (l .kind)) (leb (l .kind) 11) g)) (leb-true (l .kind) 11 (and-right (leb 1 (l .kind)) (leb (l .kind) 11) g)))
-      ∙ ap (λ (z : ℤ). others (λ k. cond (eqb (l .kind) k) (poundsOf rate l) (pos 0)) +ℤ z) (others-is ls (and-right (known l) (all known ls) e))
+      (one-line (poundsOf rate l) (l .kind) (s .from-first) (s .to-last))
+      ∙ ap (λ (z : ℤ). others (λ k. cond (eqb (l .kind) k) (poundsOf rate l) (pos 0)) +ℤ z) (others-is ls (and-right (goodLine l) (all goodLine ls) e))
       ∙ sym (others-apart (λ k. cond (eqb (l .kind) k) (poundsOf rate l) (pos 0)) (λ k. sumOfKind k rate ls))
 
   -- the others, and capacity market revenue lifted to zero, are the total
-  pub total-is : (ls : List Line) → all known ls ≡ true → summedOf false rate ls +ℤ atLeastZero (summedOf true rate ls) ≡ NAR rate ls
+  pub total-is : (ls : List Line) → all goodLine ls ≡ true → summedOf false rate ls +ℤ atLeastZero (summedOf true rate ls) ≡ NAR rate ls
   total-is ls e =
       let of : ℕ → ℤ = λ k. sumOfKind k rate ls in
       ap (λ (z : ℤ). z +ℤ atLeastZero (summedOf true rate ls)) (others-is ls e)

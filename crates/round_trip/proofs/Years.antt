@@ -7,19 +7,18 @@ use native.Mathlib.Omega.{arith}
 use borrow.Author.Tests.{eqb-true, leb-true, le-leb}
 use lib.Dec.{leb, eqb}
 use lib.IntN.{ℤ, natAbs}
-use lib.Signed.{nonNeg}
 use lib.ListN.{length, take, drop, replicate, length-drop, take-append-drop}
 use lib.Seq.{length-take-le, take-append-seam, drop-append-seam, append-snoc}
 use Rattle.lists.specs.Lists.{all}
 use Rattle.lists.proofs.Tests.{and-left, and-right, and-made}
-use Rattle.calendar.specs.Years.{goodYear}
 use Rattle.outage.specs.declared.Entry.{Entry}
 use Rattle.outage.specs.Log.{slots, lastRegimeEnd, goodEntry, validEntries, validLog, live, holding}
 use Rattle.outage.proofs.Order.{Kept, kept-says, kept-made, follows, follows-valid, good-span, good-end, good-most}
 use Rattle.outage.proofs.Holding.{Valid, valid-says, live-length, holds, holding-live, holding-valid}
 use Rattle.year.specs.declared.Line.{Line}
 use Rattle.year.specs.declared.Year.{Year}
-use Rattle.year.specs.Year.{goodPppi, goodRate, goodAmount, goodFactors, eitherSign, goodLine, isZeroLine, goodLines, goodYearRecord, lineSlots, zeroLine}
+use Rattle.year.specs.Year.{goodAmount, goodLine, isZeroLine, goodLines, goodYearRecord, lineSlots, zeroLine}
+use Rattle.year.proofs.Says.{line-says, LinesSay, lines-say, YearSays, year-says}
 use Rattle.codec.specs.Format.{num, pair, allFine}
 use Rattle.filing.specs.Form.{yearValue, pppiValue, rateValue, aicValue, isLeftOut, factorsValue, lineLayout, lineValue, entryLayout, startsIn, mayFollow, entryValue, isNone, withinValue, lineItem, entryItem, factors, lines, outages, mark, within, Parts, form}
 use Rattle.filing.specs.Return.{padded, yearOf, partsOf, fileable, validYear}
@@ -72,25 +71,12 @@ fine-made p f =
     (and-made (and-made (le-leb _ _ (f .few)) (f .lined)) (and-made (and-made (le-leb _ _ (f .fewer)) (f .logged)) (and-made (f .marked) (f .paid))))))))
 
 -- ---- lines
-line-says : (l : Line) → goodLine l ≡ true → (l .kind ≤ 11) × ((l .currency ≤ 1) × (goodAmount (l .amount) ≡ true))
-line-says l g =
-    let k = leb 1 (l .kind) && leb (l .kind) 11 in
-    let c = leb (l .currency) 1 in
-    let s = eitherSign (l .kind) || nonNeg (l .amount) in
-    let r = and-right k (c && (goodAmount (l .amount) && s)) g in (
-      leb-true (l .kind) 11 (and-right (leb 1 (l .kind)) (leb (l .kind) 11) (and-left k (c && (goodAmount (l .amount) && s)) g)),
-      (
-        leb-true (l .currency) 1 (and-left c (goodAmount (l .amount) && s) r),
-        and-left (goodAmount (l .amount)) s (and-right c (goodAmount (l .amount) && s) r),
-      ),
-    )
-
 line-fine : (l : Line) → goodLine l ≡ true → lineValue .fine l ≡ true
 line-fine l g =
     let s = line-says l g in
     and-made
-    (and-made (and-made (le-leb 0 (l .kind) (omega arith)) (le-leb (l .kind) 255 (omega (arith, s .0))))
-    (and-made (and-made (le-leb 0 (l .currency) (omega arith)) (le-leb (l .currency) 255 (omega (arith, s .1 .0)))) (s .1 .1)))
+    (and-made (and-made (le-leb 0 (l .kind) (omega arith)) (le-leb (l .kind) 255 (omega (arith, s .to-last))))
+    (and-made (and-made (le-leb 0 (l .currency) (omega arith)) (le-leb (l .currency) 255 (omega (arith, s .currency)))) (le-leb (natAbs (l .amount)) 1000000000 (s .amount))))
     g
 
 lines-fine : (before ls : List Line) → all goodLine ls ≡ true → allFine lineItem before ls ≡ true
@@ -223,12 +209,6 @@ free-lines (suc n) = free-lines n
 
 -- ---- what a valid year is
 module _ (y : Year) (v : validYear y ≡ true) where
-  abbrev ranges : Bool
-  ranges = goodFactors (y .number) (y .pppi) (y .rate) (y .aic) (y .pyc) (y .pyf)
-
-  abbrev lined : Bool
-  lined = goodLines (y .lines) (y .«line_count»)
-
   pub log-valid : validLog (y .log) ≡ true
   log-valid = and-left (validLog (y .log)) (fileable y) v
 
@@ -250,46 +230,30 @@ module _ (y : Year) (v : validYear y ≡ true) where
   log-kept : Kept lastRegimeEnd (live (y .log))
   log-kept = rw to-end at (log-parts .kept)
 
-  in-range : ranges ≡ true
-  in-range = and-left ranges (goodAmount (y .within) && lined) year-record
+  said : YearSays y
+  said = year-says y year-record
 
-  line-range : lined ≡ true
-  line-range = and-right (goodAmount (y .within)) lined (and-right ranges (goodAmount (y .within) && lined) year-record)
-
-  pub count-small : y .«line_count» ≤ lineSlots
-  count-small = leb-true (y .«line_count») lineSlots (and-left (leb (y .«line_count») lineSlots) _ line-range)
-
-  lines-so : (all goodLine (take (y .«line_count») (y .lines)) && all isZeroLine (drop (y .«line_count») (y .lines))) ≡ true
-  lines-so = and-right (leb (y .«line_count») lineSlots) _ line-range
+  lined : LinesSay (y .lines) (y .«line_count»)
+  lined = lines-say (y .lines) (y .«line_count») (said .lines)
 
   module _ (row : length (y .lines) ≡ lineSlots) (slotted : length (y .log .entries) ≡ slots) where
     taken : length (take (y .«line_count») (y .lines)) ≡ y .«line_count»
-    taken = length-take-le (y .«line_count») (y .lines) (omega (arith, count-small))
+    taken = length-take-le (y .«line_count») (y .lines) (omega (arith, lined .few))
 
     pub year-fine : Fine (partsOf y)
     year-fine =
-        let a = goodYear (y .number) in
-        let b = goodPppi (y .pppi) in
-        let c = goodRate (y .rate) in
-        let d = leb (y .aic) 20000 in
-        let e = leb (y .pyc) 10000 in
-        let f = leb (y .pyf) 10000 in
-        let h1 = and-right a (b && (c && (d && (e && f)))) in-range in
-        let h2 = and-right b (c && (d && (e && f))) h1 in
-        let h3 = and-right c (d && (e && f)) h2 in
-        let h4 = and-right d (e && f) h3 in
         record {
-          year = and-left a (b && (c && (d && (e && f)))) in-range;
-          pppi = and-left b (c && (d && (e && f))) h1;
-          rate = and-left c (d && (e && f)) h2;
-          aic = and-made (le-leb 0 (y .aic) (omega arith)) (and-left d (e && f) h3);
-          factored = factors-ok (y .number) (y .pyc) (y .pyf) (and-left e f h4) (and-right e f h4);
-          few = omega (arith, taken, count-small);
-          lined = lines-fine [] (take (y .«line_count») (y .lines)) (and-left (all goodLine (take (y .«line_count») (y .lines))) _ lines-so);
+          year = said .number;
+          pppi = said .pppi;
+          rate = said .rate;
+          aic = and-made (le-leb 0 (y .aic) (omega arith)) (le-leb (y .aic) 20000 (said .aic));
+          factored = factors-ok (y .number) (y .pyc) (y .pyf) (le-leb (y .pyc) 10000 (said .pyc)) (le-leb (y .pyf) 10000 (said .pyf));
+          few = omega (arith, taken, lined .few);
+          lined = lines-fine [] (take (y .«line_count») (y .lines)) (lined .good);
           fewer = omega (arith, live-length (y .log) slotted log-valid, log-parts .room);
           logged = entries-fine (y .number) [] (live (y .log)) (and-right (eqb (y .log .«regime_end») lastRegimeEnd) _ fits) (log-kept .good) (kept-made lastRegimeEnd (live (y .log)) log-kept);
           marked = mark-ok (y .exceptional);
-          paid = within-ok (y .within) (and-left (goodAmount (y .within)) lined (and-right ranges (goodAmount (y .within) && lined) year-record));
+          paid = within-ok (y .within) (said .within);
         }
 
     row-is : padded (take (y .«line_count») (y .lines)) ≡ y .lines
@@ -297,7 +261,7 @@ module _ (y : Year) (v : validYear y ≡ true) where
         let ls = take (y .«line_count») (y .lines) in
         let n : length (drop (y .«line_count») (y .lines)) ≡ lineSlots - length ls = length-drop (y .«line_count») (y .lines) ∙ omega (arith, taken, row) in
         let z : drop (y .«line_count») (y .lines) ≡ replicate (lineSlots - length ls) zeroLine =
-        zero-lines (drop (y .«line_count») (y .lines)) (and-right (all goodLine (take (y .«line_count») (y .lines))) _ lines-so) ∙ ap (λ (k : ℕ). replicate k zeroLine) n in
+        zero-lines (drop (y .«line_count») (y .lines)) (lined .free) ∙ ap (λ (k : ℕ). replicate k zeroLine) n in
         ap (λ (r : List Line). ls ++ r) (sym z) ∙ take-append-drop (y .«line_count») (y .lines)
 
     log-is : holding lastRegimeEnd (live (y .log)) ≡ y .log

@@ -6,7 +6,7 @@ use Prim.Native.Nat.{ℕ, _+_, _≤_, _<_}
 use native.Mathlib.Nat.{not-suc-le-zero, zero-add}
 use native.Mathlib.Omega.{arith}
 use borrow.Author.Tests.{lt-ltb, le-ltb}
-use lib.Dec.{leb, ltb}
+use lib.Dec.{ltb}
 use lib.ListN.{length, take, drop, getD, drop-of-length-le}
 use lib.Seq.{getD-take, length-take-le}
 use Rattle.lists.specs.Lists.{all}
@@ -22,7 +22,7 @@ use Rattle.calendar.specs.Years.{endOf, firstOf, goodYear, yearEnd, yearStart}
 use Rattle.outage.specs.Log.{validLog}
 use Rattle.outage.specs.Calls.{checkRows}
 use Rattle.year.specs.declared.Year.{Year}
-use Rattle.year.specs.Year.{goodAmount, goodFactors, goodLines, goodPppi, goodRate, goodYearRecord, yearRows}
+use Rattle.year.specs.Year.{goodYearRecord, yearRows}
 use Rattle.codec.specs.Buffers.{Wrote}
 use Rattle.codec.proofs.Buffers.{front}
 use Rattle.filing.specs.Return.{fileable, returnOf, validYear}
@@ -54,18 +54,6 @@ refused-row false rest why other f e = e
 module _ (y : Year) where
   pub log-valid : (a : Answer) → answerNumber a ≡ lowest (checkRows (y .log)) → a ≡ Done → validLog (y .log) ≡ true
   log-valid a n e = not-no (validLog (y .log)) (all-clear (checkRows (y .log)) (done-clear a (checkRows (y .log)) n e) .0)
-
-  pub year-good : (a : Answer) → answerNumber a ≡ lowest (yearRows y) → a ≡ Done → goodYearRecord y ≡ true
-  year-good a n e = not-no (goodYearRecord y) (all-clear (yearRows y) (done-clear a (yearRows y) n e) .0)
-
-  -- the year's number is good
-  pub number-good : goodYearRecord y ≡ true → goodYear (y .number) ≡ true
-  number-good g =
-      let shares = leb (y .aic) 20000 && (leb (y .pyc) 10000 && leb (y .pyf) 10000) in
-      let paid = goodAmount (y .within) in
-      let lines = goodLines (y .lines) (y .«line_count») in
-      and-left (goodYear (y .number)) (goodPppi (y .pppi) && (goodRate (y .rate) && shares))
-      (and-left (goodFactors (y .number) (y .pppi) (y .rate) (y .aic) (y .pyc) (y .pyf)) (paid && lines) g)
 
   pub broken : (a : Answer) (why : Refusal) → answerNumber a ≡ lowest (checkRows (y .log)) → a ≡ Refused why → answerNumber a ≡ lowest (filingRows y)
   broken a why n e = refused-row (validLog (y .log)) _ why BrokenLog (ap answerNumber e) n

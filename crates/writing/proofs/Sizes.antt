@@ -1,22 +1,20 @@
 -- How many bytes each part of a return has. Assumes nothing.
 use mathlib.Core.Path.{_≡_, refl, ap, ap₂, _∙_}
-use mathlib.Core.Bool.{Bool, true, false, cond, _&&_}
+use mathlib.Core.Bool.{Bool, true, false, cond}
 use mathlib.Core.List.{List, [], _∷_, _++_, append-assoc}
 use Prim.Native.Nat.{ℕ, _+_, _*_, _≤_}
 use native.Mathlib.Omega.{arith}
-use borrow.Author.Tests.{leb-true}
-use lib.Dec.{leb}
 use lib.IntN.{ℤ}
-use lib.ListN.{length, take, drop, length-append}
+use lib.ListN.{length, take, length-append}
 use lib.Seq.{length-take-le}
-use Rattle.lists.specs.Lists.{all}
 use Rattle.lists.proofs.Tests.{and-left, and-right}
 use Rattle.outage.specs.declared.Entry.{Entry}
 use Rattle.outage.specs.Log.{slots, live, validLog}
 use Rattle.outage.proofs.Holding.{valid-says}
 use Rattle.year.specs.declared.Line.{Line}
 use Rattle.year.specs.declared.Year.{Year}
-use Rattle.year.specs.Year.{goodAmount, goodFactors, goodLine, goodLines, goodYearRecord, isZeroLine, lineSlots}
+use Rattle.year.specs.Year.{goodYearRecord, lineSlots}
+use Rattle.year.proofs.Says.{lines-say, year-says}
 use Rattle.codec.specs.Numbers.{bytesOf}
 use Rattle.codec.specs.Fields.{head}
 use Rattle.codec.specs.Format.{fieldOf, texts, unless}
@@ -109,16 +107,8 @@ module _ (y : Year) (valid : validYear y ≡ true) where
 
   pub few-lines : y .«line_count» ≤ lineSlots
   few-lines =
-      let ranged = goodFactors (y .number) (y .pppi) (y .rate) (y .aic) (y .pyc) (y .pyf) in
-      let paid = goodAmount (y .within) in
-      let lines = goodLines (y .lines) (y .«line_count») in
-      let slotted = all goodLine (take (y .«line_count») (y .lines)) && all isZeroLine (drop (y .«line_count») (y .lines)) in
-      leb-true (y .«line_count») lineSlots
-      (and-left (leb (y .«line_count») lineSlots) slotted
-      (and-right paid lines
-      (and-right ranged (paid && lines)
-      (and-left (goodYearRecord y) (logFits (y .log) (y .number))
-      (and-right (validLog (y .log)) (fileable y) valid)))))
+      let record-good = and-left (goodYearRecord y) (logFits (y .log) (y .number)) (and-right (validLog (y .log)) (fileable y) valid) in
+      lines-say (y .lines) (y .«line_count») (year-says y record-good .lines) .few
 
   module _ (l : length (y .lines) ≡ lineSlots) where
     pub lines-size : length (lined y) ≡ 13 * y .«line_count»

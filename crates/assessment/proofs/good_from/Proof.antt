@@ -9,8 +9,9 @@ use Rattle.lists.proofs.Tests.{held}
 use Rattle.lists.specs.Lists.{all}
 use Rattle.year.specs.declared.Year.{Year}
 use Rattle.year.specs.Year.{goodYearRecord}
+use Rattle.year.proofs.Says.{checked-good, checked-bad}
 use Rattle.assessment.specs.Period.{goodFrom, numbersFrom}
-use Rattle.assessment.proofs.Years.{noYear, goodRest, rest-start, rest-bad-year, rest-bad-number, rest-next, year-good, year-bad}
+use Rattle.assessment.proofs.Years.{noYear, goodRest, rest-start, rest-bad-year, rest-bad-number, rest-next}
 use Rattle.assessment.proofs.good_from.Statement.{statement}
 use Rattle.assessment.proofs.good_from.Tie as tie
 use Rattle.assessment.proofs.good_from.Reads as reads
@@ -50,7 +51,7 @@ returns c =
     let x = getD (s .t1) (a .loop .k) noYear in
     sym (a .loop .inv .1
     ∙ rest-bad-year (s .number) (a .loop .k) (s .t1) noYear (omega (arith, len (a .before)))
-    (year-bad x (y .check-year .result) (y .check-year .ensures) (c .enum-told .given .0 .0) (c .enum-told .given .1)))
+    (checked-bad x (y .check-year .result) (y .check-year .ensures) (c .enum-told .given .0 .0) (c .enum-told .given .1)))
 
 enum-told-2 : tie.Need-enum-told-2 Inv-loop μ-loop
 enum-told-2 c = search needs
@@ -70,7 +71,7 @@ returns-2 c =
     let x = getD (s .t1) (a .loop .k) noYear in
     sym (a .loop .inv .1
     ∙ rest-bad-number (s .number) (a .loop .k) (s .t1) noYear (omega (arith, len (a .before)))
-    (year-good x (y .check-year .result) (y .check-year .ensures) (t .enum-told2 .given .1)) (c .if1 .taken))
+    (checked-good x (y .check-year .result) (y .check-year .ensures) (t .enum-told2 .given .1)) (c .if1 .taken))
 
 add-k : tie.Need-add-k Inv-loop μ-loop
 add-k c = search needs
@@ -88,7 +89,7 @@ loop-again c =
       omega arith,
       a .loop .inv .1
           ∙ rest-next (s .number) (a .loop .k) (s .t1) noYear (omega (arith, len (a .before)))
-          (year-good x (y .check-year .result) (y .check-year .ensures) (t .enum-told2 .given .1)) (c .if1 .left),
+          (checked-good x (y .check-year .result) (y .check-year .ensures) (t .enum-told2 .given .1)) (c .if1 .left),
     )
 
 returns-3 : tie.Need-returns-3 Inv-loop μ-loop

@@ -8,18 +8,18 @@ use mir.Syntax.{w64}
 use mir.Val.{toZ, ofZ}
 use Rattle.money.proofs.Pounds.{wire}
 use Rattle.refusals.specs.Refusals.{answerNumber}
-use Rattle.refusals.proofs.Laws.{done-clear}
-use Rattle.year.specs.Year.{goodYearRecord, yearRows}
+use Rattle.year.specs.Year.{goodYearRecord}
+use Rattle.year.proofs.Says.{year-says, checked-good}
 use Rattle.revenue.specs.Revenue.{assessedRevenue}
-use Rattle.revenue.proofs.Answers.{gives-bad, gives-large, gives-pounds, year-good, lines-good, rate-good}
+use Rattle.revenue.proofs.Answers.{gives-bad, gives-large, gives-pounds}
 use Rattle.revenue.proofs.revenue_of.Statement.{statement}
 use Rattle.revenue.proofs.revenue_of.Tie as tie
 
 -- the year is good
 good : (c : tie.After-enum-told) → goodYearRecord (c .before .before .before .args .y) ≡ true
 good c =
-    let y = c .before .before .before .args .y in
-    year-good y (done-clear (c .before .before .check-year .result) (yearRows y) (c .before .before .check-year .ensures) (c .enum-told .given .1))
+    let k = c .before .before in
+    checked-good (k .before .args .y) (k .check-year .result) (k .check-year .ensures) (c .enum-told .given .1)
 
 -- the total, as it is read back, and whether it is within the limit
 sum : (c : tie.After-total) → toZ w64 (ofZ w64 (c .total .result)) ≡ assessedRevenue (c .before .before .before .before .before .args .y)
@@ -44,9 +44,8 @@ enum-told c = search needs
 
 total-requires : tie.Need-total-requires
 total-requires c κs =
-    let g = good (c .before) in
-    let y = c .before .before .before .before .args .y in
-    (lines-good y g, rate-good y g)
+    let s = year-says (c .before .before .before .before .args .y) (good (c .before)) in
+    (s .lines, s .rate)
 
 within-requires : tie.Need-within-requires
 within-requires c κs = search needs

@@ -9,8 +9,9 @@ use mir.Val.{toZ, ofZ}
 use Rattle.lists.proofs.Tests.{held}
 use Rattle.money.proofs.Pounds.{wire}
 use Rattle.year.specs.Year.{zeroLine}
+use Rattle.year.proofs.Says.{LinesSay, lines-say, rate-most}
 use Rattle.revenue.specs.Revenue.{poundsOf}
-use Rattle.revenue.proofs.Sums.{rate-small, count-small, amount-small, counts-line, Added, added-none, added-next, added-total}
+use Rattle.revenue.proofs.Sums.{amount-small, counts-line, Added, added-none, added-next, added-total}
 use Rattle.revenue.proofs.total.Statement.{statement}
 use Rattle.revenue.proofs.total.Tie as tie
 
@@ -25,8 +26,11 @@ abbrev μ-loop : tie.MeasureT-loop
 len : (c : tie.Start Inv-loop μ-loop) → length (c .args .t1) ≡ 64
 len c = search (needs, held)
 
+said : (c : tie.Start Inv-loop μ-loop) → LinesSay (c .args .t1) (c .args .count)
+said c = lines-say (c .args .t1) (c .args .count) (c .pre .0)
+
 few : (c : tie.Start Inv-loop μ-loop) → c .args .count ≤ 64
-few c = count-small (c .args .t1) (c .args .count) (c .pre .0)
+few c = said c .few
 
 -- the line in pounds, as it is read back
 read : (c : tie.After-pounds Inv-loop μ-loop) → (let a = c .before .before .before in toZ w64 (ofZ w64 (c .pounds .result)) ≡ poundsOf (a .before .args .rate) (getD (a .before .args .t1) (a .loop .k) zeroLine))
@@ -46,7 +50,7 @@ array-copy-out-l c = omega (arith, few (c .before .before))
 pounds-requires : tie.Need-pounds-requires Inv-loop μ-loop
 pounds-requires c κs =
     let s = c .before .before .before in
-    (amount-small (s .args .t1) (s .args .count) (s .pre .0) (len s) (c .before .before .loop .k) (c .before .loop-test .taken), rate-small (s .args .rate) (s .pre .1))
+    (amount-small (s .args .t1) (s .args .count) (said s) (len s) (c .before .before .loop .k) (c .before .loop-test .taken), rate-most (s .args .rate) (s .pre .1))
 
 counted-requires : tie.Need-counted-requires Inv-loop μ-loop
 counted-requires c κs = rw (wire (c .pounds .result) (c .pounds .ok)) (c .pounds .ensures .1)
@@ -98,7 +102,7 @@ returns c =
     let end : a .loop .k ≡ s .args .count = omega arith in
     wire (c .plus3 .result) (c .plus3 .ok)
     ∙ rw (wire (z .at-least-zero .result) (z .at-least-zero .ok), z .at-least-zero .ensures) at (c .plus3 .ensures)
-    ∙ added-total (s .args .t1) (s .args .count) (s .pre .0) (rw end at (a .loop .inv .1)) (rw end at (a .loop .inv .2))
+    ∙ added-total (s .args .t1) (s .args .count) (said s) (rw end at (a .loop .inv .1)) (rw end at (a .loop .inv .2))
 
 pub total-spec : {M : Type 1} → statement M
 total-spec =

@@ -3,7 +3,8 @@ use lib.IntN.{ℤ}
 use Rattle.money.proofs.Pounds.{wire}
 use Rattle.levels.specs.Book.{capSum}
 use Rattle.levels.specs.Levels.{levelOf}
-use Rattle.levels.proofs.Ranges.{wire-small, book-says}
+use Rattle.levels.proofs.Says.{book-says}
+use Rattle.levels.proofs.Ranges.{wire-small}
 use Rattle.levels.proofs.levelling.cap_of.Statement.{statement}
 use Rattle.levels.proofs.levelling.cap_of.Tie as tie
 

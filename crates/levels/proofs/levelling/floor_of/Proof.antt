@@ -3,7 +3,8 @@ use native.Mathlib.Omega.{arith}
 use borrow.Author.Needs.{needs}
 use Rattle.money.proofs.Pounds.{wire}
 use Rattle.levels.specs.Book.{floorSum}
-use Rattle.levels.proofs.Ranges.{wire-small, book-says, aif-most}
+use Rattle.levels.proofs.Says.{book-says}
+use Rattle.levels.proofs.Ranges.{wire-small, aif-most}
 use Rattle.levels.proofs.levelling.floor_of.Statement.{statement}
 use Rattle.levels.proofs.levelling.floor_of.Tie as tie
 

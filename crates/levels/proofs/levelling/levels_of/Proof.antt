@@ -11,8 +11,8 @@ use Rattle.levels.specs.declared.measuring.Target.{Target}
 use Rattle.levels.specs.declared.measuring.Target.the-variants.{Met, Missed, Refused}
 use Rattle.levels.specs.Availability.{targetNumber, targetMet, TargetGives}
 use Rattle.levels.specs.Levels.{aifOf, capLevel, floorLevel, levelFits}
-use Rattle.levels.proofs.Ranges.{year-says}
-use Rattle.levels.proofs.Levelled.{gives-no-target, gives-no-year, good, year-good, gives-large-cap, gives-large-floor, gives-levels}
+use Rattle.year.proofs.Says.{year-says, pppi-most, checked-good}
+use Rattle.levels.proofs.Levelled.{gives-no-target, gives-no-year, good, gives-large-cap, gives-large-floor, gives-levels}
 use Rattle.levels.proofs.measuring.Target.{the-type}
 use Rattle.levels.proofs.levelling.levels_of.Statement.{statement}
 use Rattle.levels.proofs.levelling.levels_of.Tie as tie
@@ -30,10 +30,8 @@ clear c = told (c .before .check-target .result) (c .match .keys2)
 
 in-range : (c : tie.After-enum-told) → goodYearRecord (c .before .before .before .before .before .args .y) ≡ true
 in-range c =
-    let k = c .before .before .before in
-    let a = k .before .before .args in
-    year-good (a .book) (a .y) (a .log) (k .before .check-target .result) (k .before .check-target .ensures) (clear k)
-    (c .before .before .check-year .result) (c .before .before .check-year .ensures) (c .enum-told .given .1)
+    let k = c .before .before in
+    checked-good (k .before .before .before .args .y) (k .check-year .result) (k .check-year .ensures) (c .enum-told .given .1)
 
 fits : (c : tie.After-within) → (let a = c .before .before .before .before .before .before .before .before .before .args in levelFits (capLevel (a .book) (a .y))) ≡ c .within .result
 fits c =
@@ -82,7 +80,7 @@ cap-of-requires c κs =
     let k = c .before .before .before in
     let a = k .before .before .args in
     let y = year-says (a .y) (in-range c) in
-    (good (a .book) (a .y) (a .log) (k .before .check-target .result) (k .before .check-target .ensures) (clear k), y .pyc, y .aic, y .pppi)
+    (good (a .book) (a .y) (a .log) (k .before .check-target .result) (k .before .check-target .ensures) (clear k), y .pyc, y .aic, pppi-most (a .y .pppi) (y .pppi))
 
 is-met-requires : tie.Need-is-met-requires
 is-met-requires c κs = search needs
@@ -93,7 +91,7 @@ floor-of-requires c κs =
     let k = e .before .before .before in
     let a = k .before .before .args in
     let y = year-says (a .y) (in-range e) in
-    (good (a .book) (a .y) (a .log) (k .before .check-target .result) (k .before .check-target .ensures) (clear k), y .pyf, y .pppi)
+    (good (a .book) (a .y) (a .log) (k .before .check-target .result) (k .before .check-target .ensures) (clear k), y .pyf, pppi-most (a .y .pppi) (y .pppi))
 
 within-requires : tie.Need-within-requires
 within-requires c κs = search needs
