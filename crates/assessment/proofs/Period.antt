@@ -1,16 +1,15 @@
--- What a period's assessment comes to, from what the calls made on the way answer. Assumes nothing.
+-- What the assessment of the first n years of a period comes to, from what the calls made on the way answer. Assumes nothing.
 use mathlib.Core.Path.{_≡_, refl, sym, ap, _∙_}
 use mathlib.Core.Bool.{Bool, true, false, cond, not, _&&_}
 use mathlib.Core.List.{List, [], _∷_, map}
 use Prim.Native.Nat.{ℕ, zero, suc, _≤_, _<_}
 use native.Mathlib.Omega.{arith}
 use lib.Dec.{eqb}
-use lib.ListN.{length, getD}
+use lib.ListN.{length, take, getD}
 use lib.IntN.{ℤ, pos}
 use lib.Signed.{ltZ, nonNeg}
 use Rattle.lists.specs.Lists.{all}
 use Rattle.lists.proofs.Tests.{and-left, and-right, and-made, not-no}
-use Rattle.lists.proofs.Lists.{all-at}
 use Rattle.refusals.specs.declared.Refusal.{Refusal}
 use Rattle.refusals.specs.declared.Refusal.the-variants.{BadBook, BrokenLog, BadYear, TooLarge, FloorAboveCap}
 use Rattle.refusals.specs.declared.Answer.the-variants as answer
@@ -30,72 +29,84 @@ use Rattle.levels.specs.Levels.{capLevel, floorOf, levelFits}
 use Rattle.levels.proofs.Says.{held-good}
 use Rattle.levels.proofs.Ranges.{cap-good, floor-good}
 use Rattle.revenue.specs.Revenue.{assessedRevenue}
+use Rattle.balances.specs.declared.assessing.Yearly.{Yearly}
 use Rattle.balances.specs.declared.assessing.Assessment.{Assessment}
 use Rattle.balances.specs.declared.assessing.Assessment.the-variants.{Refused}
-use Rattle.balances.specs.Balance.{goodIndex, goodAmount, goodAmounts}
-use Rattle.balances.specs.Assessment.{ARN, CLN, FLN, WPAN, assessRows, balancesWithin, figuresOf, goodYearly, noFigures, notNegative, assessNumber, AssessGives}
-use Rattle.assessment.specs.Period.{periodRows, yearFits, yearlyOf, yearsGood, onePeriod, PeriodGives}
-use Rattle.assessment.proofs.Years.{noYear, map-at}
+use Rattle.balances.specs.Balance.{goodCount, goodIndex, goodAmount, goodAmounts}
+use Rattle.balances.specs.Assessment.{CLN, FLN, assessRowsOf, balancesWithin, figuresIn, goodYearly, noFigures, notNegative, assessNumber, YearsGives}
+use Rattle.assessment.specs.Period.{periodRowsOf, yearFits, firstRows, yearlyOf, yearsGood, onePeriod}
+use Rattle.assessment.specs.Steps.{FirstGives}
+use Rattle.assessment.proofs.Years.{noYear, first-at, row-at}
 
--- ---- amounts taken year by year
-module _ (f : Year → ℤ) (years : List Year) where
-  amounts-good : (n : ℕ) → n ≤ length years → all goodYearRecord years ≡ true → ((k : ℕ) → k < length years → goodAmount (f (getD years k noYear)) ≡ true)
-      → goodAmounts (map (λ (y : Year). y .pppi) years) (map f years) n ≡ true
+-- years that are those of one period are in range
+pub good-records : (years : List Year) (n : ℕ) → yearsGood years n ≡ true → all goodYearRecord (take n years) ≡ true
+unfolding yearsGood
+good-records years n g = and-left (all goodYearRecord (take n years)) (onePeriod (take n years)) g
+
+-- ---- amounts taken year by year, of the first n years
+module _ (f : Year → ℤ) (years : List Year) (n : ℕ) (fits : n ≤ length years) where
+  amounts-good : (m : ℕ) → m ≤ n → all goodYearRecord (take n years) ≡ true → ((k : ℕ) → k < n → goodAmount (f (getD years k noYear)) ≡ true)
+      → goodAmounts (firstRows 0 n (map (λ (y : Year). y .pppi) years)) (firstRows (pos 0) n (map f years)) m ≡ true
   unfolding goodAmounts
   amounts-good zero h g a = refl
-  amounts-good (suc n) h g a =
+  amounts-good (suc m) h g a =
       and-made
       (and-made
-      (ap goodIndex (map-at (λ (y : Year). y .pppi) years n noYear 0 h) ∙ year-says (getD years n noYear) (all-at goodYearRecord noYear years g n h) .pppi)
-      (ap goodAmount (map-at f years n noYear (pos 0) h) ∙ a n h))
-      (amounts-good n (omega arith) g a)
+      (ap goodIndex (row-at noYear years n fits (λ (y : Year). y .pppi) 0 m h) ∙ year-says (getD years m noYear) (first-at noYear years n fits goodYearRecord g m h) .pppi)
+      (ap goodAmount (row-at noYear years n fits f (pos 0) m h) ∙ a m h))
+      (amounts-good m (omega arith) g a)
 
-  amounts-positive : (n : ℕ) → n ≤ length years → ((k : ℕ) → k < length years → nonNeg (f (getD years k noYear)) ≡ true) → notNegative (map f years) n ≡ true
+  amounts-positive : (m : ℕ) → m ≤ n → ((k : ℕ) → k < n → nonNeg (f (getD years k noYear)) ≡ true) → notNegative (firstRows (pos 0) n (map f years)) m ≡ true
   unfolding notNegative
   amounts-positive zero h a = refl
-  amounts-positive (suc n) h a = and-made (ap nonNeg (map-at f years n noYear (pos 0) h) ∙ a n h) (amounts-positive n (omega arith) a)
+  amounts-positive (suc m) h a = and-made (ap nonNeg (row-at noYear years n fits f (pos 0) m h) ∙ a m h) (amounts-positive m (omega arith) a)
 
-module _ (book : Book) (years : List Year) (log : Log) where
+-- what a year that fits says
+record FitsSays (book : Book) (log : Log) (y : Year) : Type 0 where
+  pub cap : levelFits (capLevel book y) ≡ true
+  pub floor : levelFits (floorOf book y log) ≡ true
+  pub revenue : levelFits (assessedRevenue y) ≡ true
+
+fits-says : (book : Book) (log : Log) (y : Year) → yearFits book log y ≡ true → FitsSays book log y
+fits-says book log y g =
+    let c = levelFits (capLevel book y) in
+    let f = levelFits (floorOf book y log) in
+    let r = levelFits (assessedRevenue y) in
+    let rest = and-right c (f && r) g in
+    record { cap = and-left c (f && r) g; floor = and-left f r rest; revenue = and-right f r rest }
+
+module _ (book : Book) (years : List Year) (log : Log) (n : ℕ) where
   -- the amounts of years in range that fit are in range for the balances
-  pub amounts-in-range : length years ≡ 5 → goodBook book ≡ true → all goodYearRecord years ≡ true → all (yearFits book log) years ≡ true
-      → goodYearly (yearlyOf book years log) 5 ≡ true
-  amounts-in-range len b g f =
-      let long : 5 ≤ length years = omega arith in
-      let fits : (k : ℕ) → k < length years → yearFits book log (getD years k noYear) ≡ true = λ k h. all-at (yearFits book log) noYear years f k h in
-      let caps : (k : ℕ) → k < length years → levelFits (capLevel book (getD years k noYear)) ≡ true =
-      λ k h. and-left (levelFits (capLevel book (getD years k noYear))) (levelFits (floorOf book (getD years k noYear) log) && levelFits (assessedRevenue (getD years k noYear))) (fits k h) in
-      let others : (k : ℕ) → k < length years → (levelFits (floorOf book (getD years k noYear) log) && levelFits (assessedRevenue (getD years k noYear))) ≡ true =
-      λ k h. and-right (levelFits (capLevel book (getD years k noYear))) (levelFits (floorOf book (getD years k noYear) log) && levelFits (assessedRevenue (getD years k noYear))) (fits k h) in
-      and-made
-      (amounts-good assessedRevenue years 5 long g
-      (λ k h. and-right (levelFits (floorOf book (getD years k noYear) log)) (levelFits (assessedRevenue (getD years k noYear))) (others k h)))
-      (and-made
-      (amounts-good (capLevel book) years 5 long g caps)
-      (and-made
-      (amounts-positive (capLevel book) years 5 long (λ k h. cap-good book b (getD years k noYear)))
-      (and-made
-      (amounts-good (λ (y : Year). floorOf book y log) years 5 long g
-      (λ k h. and-left (levelFits (floorOf book (getD years k noYear) log)) (levelFits (assessedRevenue (getD years k noYear))) (others k h)))
-      (and-made
-      (amounts-positive (λ (y : Year). floorOf book y log) years 5 long (λ k h. floor-good book b (getD years k noYear) log))
-      (amounts-good (λ (y : Year). y .within) years 5 long g
-      (λ k h. year-says (getD years k noYear) (all-at goodYearRecord noYear years g k h) .within))))))
+  amounts-in-range : goodCount n ≡ true → n ≤ length years → goodBook book ≡ true → all goodYearRecord (take n years) ≡ true → all (yearFits book log) (take n years) ≡ true
+      → goodYearly (yearlyOf book years log n) n ≡ true
+  amounts-in-range count fits b g f =
+      let all-of : n ≤ n = omega arith in
+      let year : ℕ → Year = λ k. getD years k noYear in
+      let says : (k : ℕ) → k < n → FitsSays book log (year k) = λ k h. fits-says book log (year k) (first-at noYear years n fits (yearFits book log) f k h) in
+      and-made count
+      (and-made (amounts-good assessedRevenue years n fits n all-of g (λ k h. says k h .revenue))
+      (and-made (amounts-good (capLevel book) years n fits n all-of g (λ k h. says k h .cap))
+      (and-made (amounts-positive (capLevel book) years n fits n all-of (λ k h. cap-good book b (year k)))
+      (and-made (amounts-good (λ (y : Year). floorOf book y log) years n fits n all-of g (λ k h. says k h .floor))
+      (and-made (amounts-positive (λ (y : Year). floorOf book y log) years n fits n all-of (λ k h. floor-good book b (year k) log))
+      (amounts-good (λ (y : Year). y .within) years n fits n all-of g (λ k h. year-says (year k) (first-at noYear years n fits goodYearRecord g k h) .within)))))))
 
   -- ---- what is given
+  abbrev yearly : Yearly
+  yearly = yearlyOf book years log n
+
   -- a refusal's number says that nothing is given
-  gives-none : (why : Refusal) → numberOf why ≡ lowest (periodRows book years log) → PeriodGives book years log (Refused why)
-  gives-none why n =
-      let none : accepted (periodRows book years log) ≡ false = refused-not (answer.Refused why) (periodRows book years log) why n refl in
-      let y = yearlyOf book years log in
-      (n, ap (λ (b : Bool). cond b (figuresOf (ARN y 5) (CLN y 5) (FLN y 5) (WPAN y 5)) noFigures) (sym none))
+  gives-none : (why : Refusal) → numberOf why ≡ lowest (periodRowsOf book years log n) → FirstGives book years log n (Refused why)
+  gives-none why e =
+      let none : accepted (periodRowsOf book years log n) ≡ false = refused-not (answer.Refused why) (periodRowsOf book years log n) why e refl in
+      (e, ap (λ (b : Bool). cond b (figuresIn yearly n) noFigures) (sym none))
 
   -- the book or the log is refused, as it is for the first year
-  pub gives-no-availability : (r : Availability) (why : Refusal) → AvailabilityGives book log 1 r → r ≡ availability.Refused why → PeriodGives book years log (Refused why)
+  pub gives-no-availability : (r : Availability) (why : Refusal) → AvailabilityGives book log 1 r → r ≡ availability.Refused why → FirstGives book years log n (Refused why)
   gives-no-availability r why g e =
-      let y = yearlyOf book years log in
-      let stop = same-stop (bookHolds book (log .«regime_end»)) (validLog log) (not (yearsGood years)) (not (all (yearFits book log) years && balancesWithin y 5)) (ltZ (CLN y 5) (FLN y 5)) in
-      let n : numberOf why ≡ lowest (availabilityRows book log 1) = sym (ap availabilityNumber e) ∙ g .0 in
-      gives-none why (n ∙ stop (omega (arith, never-zero why)))
+      let stop = same-stop (bookHolds book (log .«regime_end»)) (validLog log) (not (yearsGood years n)) (not (all (yearFits book log) (take n years) && balancesWithin yearly n)) (ltZ (CLN yearly n) (FLN yearly n)) in
+      let m : numberOf why ≡ lowest (availabilityRows book log 1) = sym (ap availabilityNumber e) ∙ g .0 in
+      gives-none why (m ∙ stop (omega (arith, never-zero why)))
     where
       same-stop : (b v y t f : Bool)
           → 0 < lowest ((BadBook, not b) ∷ (BrokenLog, not v) ∷ (BadYear, false) ∷ [])
@@ -113,46 +124,37 @@ module _ (book : Book) (years : List Year) (log : Log) where
   log-told r x g e = not-no (validLog log) (all-clear (availabilityRows book log 1) (sym (g .0) ∙ ap availabilityNumber e) .1 .0)
 
   module _ (b : bookHolds book (log .«regime_end») ≡ true) (v : validLog log ≡ true) where
-    pub gives-bad-years : yearsGood years ≡ false → PeriodGives book years log (Refused BadYear)
-    gives-bad-years g = let n : 9 ≡ lowest (periodRows book years log) = simp (b, v, g) in gives-none BadYear n
+    pub gives-bad-years : yearsGood years n ≡ false → FirstGives book years log n (Refused BadYear)
+    gives-bad-years g = let m : 9 ≡ lowest (periodRowsOf book years log n) = simp (b, v, g) in gives-none BadYear m
 
-    pub gives-too-large : yearsGood years ≡ true → all (yearFits book log) years ≡ false → PeriodGives book years log (Refused TooLarge)
-    gives-too-large g f = let n : 11 ≡ lowest (periodRows book years log) = simp (b, v, g, f) in gives-none TooLarge n
+    pub gives-too-large : yearsGood years n ≡ true → all (yearFits book log) (take n years) ≡ false → FirstGives book years log n (Refused TooLarge)
+    gives-too-large g f = let m : 11 ≡ lowest (periodRowsOf book years log n) = simp (b, v, g, f) in gives-none TooLarge m
 
     -- the balances' answer is the period's
-    pub gives-assessed : length years ≡ 5 → yearsGood years ≡ true → all goodYearRecord years ≡ true → all (yearFits book log) years ≡ true
-        → (r : Assessment) → AssessGives (yearlyOf book years log) r → PeriodGives book years log r
-    gives-assessed len g h f r a =
-        let y = yearlyOf book years log in
-        let range = amounts-in-range len (held-good book (log .«regime_end») b) h f in
-        let n : lowest (assessRows y) ≡ lowest (periodRows book years log) =
-        same-rows (bookHolds book (log .«regime_end»)) (validLog log) (yearsGood years) (all (yearFits book log) years) (goodYearly y 5) (balancesWithin y 5) (ltZ (CLN y 5) (FLN y 5)) b v g f range in
-        (a .0 ∙ n, a .1 ∙ ap (λ (k : ℕ). cond (eqb k 0) (figuresOf (ARN y 5) (CLN y 5) (FLN y 5) (WPAN y 5)) noFigures) n)
+    pub gives-assessed : goodCount n ≡ true → n ≤ length years → yearsGood years n ≡ true → all (yearFits book log) (take n years) ≡ true
+        → (r : Assessment) → YearsGives yearly n r → FirstGives book years log n r
+    gives-assessed count fits g f r a =
+        let range = amounts-in-range count fits (held-good book (log .«regime_end») b) (good-records years n g) f in
+        let m : lowest (assessRowsOf yearly n) ≡ lowest (periodRowsOf book years log n) =
+        same-rows (bookHolds book (log .«regime_end»)) (validLog log) (yearsGood years n) (all (yearFits book log) (take n years)) (goodYearly yearly n) (balancesWithin yearly n) (ltZ (CLN yearly n) (FLN yearly n)) b v g f range in
+        (a .0 ∙ m, a .1 ∙ ap (λ (k : ℕ). cond (eqb k 0) (figuresIn yearly n) noFigures) m)
       where
         same-rows : (b v g f r w t : Bool) → b ≡ true → v ≡ true → g ≡ true → f ≡ true → r ≡ true
             → lowest ((BadYear, not r) ∷ (TooLarge, not w) ∷ (FloorAboveCap, t) ∷ [])
             ≡ lowest ((BadBook, not b) ∷ (BrokenLog, not v) ∷ (BadYear, not g) ∷ (TooLarge, not (f && w)) ∷ (FloorAboveCap, t) ∷ [])
         same-rows b v g f r w t i j k l m = simp (i, j, k, l, m)
 
--- years that are those of one period are in range
-pub good-records : (years : List Year) → yearsGood years ≡ true → all goodYearRecord years ≡ true
-unfolding yearsGood
-good-records years g = and-left (all goodYearRecord years) (onePeriod years) g
-
--- a period that is not refused is assessed as its yearly amounts are
-pub period-assessed : (book : Book) (years : List Year) (log : Log) (r : Assessment) → length years ≡ 5 → PeriodGives book years log r → assessNumber r ≡ 0
-    → AssessGives (yearlyOf book years log) r
-period-assessed book years log r len g n =
-    let y = yearlyOf book years log in
-    let figures = figuresOf (ARN y 5) (CLN y 5) (FLN y 5) (WPAN y 5) in
-    let none : lowest (periodRows book years log) ≡ 0 = sym (g .0) ∙ n in
-    let clear = all-clear (periodRows book years log) none in
-    let b : bookHolds book (log .«regime_end») ≡ true = not-no (bookHolds book (log .«regime_end»)) (clear .0) in
-    let f : (all (yearFits book log) years && balancesWithin y 5) ≡ true = not-no (all (yearFits book log) years && balancesWithin y 5) (clear .1 .1 .1 .0) in
-    let range : goodYearly y 5 ≡ true =
-    amounts-in-range book years log len (held-good book (log .«regime_end») b)
-    (good-records years (not-no (yearsGood years) (clear .1 .1 .0))) (and-left (all (yearFits book log) years) (balancesWithin y 5) f) in
-    let zero-too : lowest (assessRows y) ≡ 0 = simp (range, and-right (all (yearFits book log) years) (balancesWithin y 5) f, clear .1 .1 .1 .1 .0) in (
-      n ∙ sym zero-too,
-      g .1 ∙ ap (λ (k : ℕ). cond (eqb k 0) figures noFigures) (none ∙ sym zero-too),
-    )
+  -- what is not refused is assessed as its yearly amounts are
+  pub period-assessed : (r : Assessment) → goodCount n ≡ true → n ≤ length years → FirstGives book years log n r → assessNumber r ≡ 0 → YearsGives yearly n r
+  period-assessed r count fits g z =
+      let none : lowest (periodRowsOf book years log n) ≡ 0 = sym (g .0) ∙ z in
+      let clear = all-clear (periodRowsOf book years log n) none in
+      let w = balancesWithin yearly n in
+      let a = all (yearFits book log) (take n years) in
+      let b : bookHolds book (log .«regime_end») ≡ true = not-no (bookHolds book (log .«regime_end»)) (clear .0) in
+      let f : (a && w) ≡ true = not-no (a && w) (clear .1 .1 .1 .0) in
+      let range = amounts-in-range count fits (held-good book (log .«regime_end») b) (good-records years n (not-no (yearsGood years n) (clear .1 .1 .0))) (and-left a w f) in
+      let zero-too : lowest (assessRowsOf yearly n) ≡ 0 = simp (range, and-right a w f, clear .1 .1 .1 .1 .0) in (
+        z ∙ sym zero-too,
+        g .1 ∙ ap (λ (k : ℕ). cond (eqb k 0) (figuresIn yearly n) noFigures) (none ∙ sym zero-too),
+      )

@@ -22,7 +22,7 @@ use Rattle.revenue.specs.declared.Revenue.{Revenue}
 use Rattle.revenue.specs.declared.Revenue.the-variants as revenue
 use Rattle.revenue.specs.Revenue.{assessedRevenue, revenueRows, revenueNumber, revenueFigure, RevenueGives}
 use Rattle.assessment.specs.declared.Row.{Row}
-use Rattle.assessment.specs.Period.{rowOf, noRow}
+use Rattle.assessment.specs.Steps.{rowOf, noRow}
 
 -- ---- the levels' answer
 pub record Levelled (book : Book) (y : Year) (log : Log) (cap floor : ℤ) : Type 0 where

@@ -1,2 +1,3 @@
--- The assessment of a period.
+-- The assessment of a period, and what the functions inside are stated by.
 pub mod Period
+pub mod Steps

@@ -1,8 +1,8 @@
-// The assessment of a period, from the book, its five years and the running log: document 000, SC3; document 01,
-// "Assessment".
+// The assessment of a period, from the book, its years and the running log: document 000, SC3; document 01, "Assessment".
+// What is inside is over the first n of a period's years.
 use balances::Assessment;
 use balances::Yearly;
-use balances::assess;
+use balances::assess_years;
 use levels::Availability;
 use levels::Book;
 use levels::Levels;
@@ -17,12 +17,15 @@ use year::Year;
 use year::check_year;
 ghost use mathlib.Core.Path.{_≡_};
 ghost use mathlib.Core.Bool.{cond, true};
-ghost use Prim.Native.Nat.{_<_};
+ghost use Prim.Native.Nat.{_<_, _≤_};
+ghost use lib.ListN.{take};
 ghost use Rattle.lists.specs.Lists.{all};
 ghost use Rattle.levels.specs.Book.{bookHolds};
 ghost use Rattle.outage.specs.Log.{validLog};
 ghost use Rattle.year.specs.Year.{goodYearRecord};
-ghost use Rattle.assessment.specs.Period.{goodFrom, noAmounts, noRow, rowOf, withRow, yearFits, yearlyOf, yearsGood, PeriodGives};
+ghost use Rattle.balances.specs.Balance.{goodCount, periodYears};
+ghost use Rattle.assessment.specs.Period.{yearFits, yearlyOf, yearsGood, PeriodGives};
+ghost use Rattle.assessment.specs.Steps.{goodFrom, noAmounts, noRow, rowOf, withRow, FirstGives};
 
 // What one year brings, and whether its levels and revenue fit: zeros where they do not.
 struct Row {
@@ -34,18 +37,19 @@ struct Row {
     within: i64,
 }
 
-// What five years bring, and whether all of it fits.
+// What the years bring, and whether all of it fits.
 struct Filled {
     fits: bool,
     yearly: Yearly,
 }
 
-// The years are in range and their numbers follow one another from `number` on.
-fn good_from(years: [Year; 5], number: u8) -> bool
-    ensures { λ r. ⌜ r ≡ goodFrom number years ⌝ }
+// The first n years are in range and their numbers follow one another from `number` on.
+fn good_from(years: [Year; Yearly::YEARS], n: usize, number: u8) -> bool
+    requires { ⌜ n ≤ periodYears ⌝ }
+    ensures { λ r. ⌜ r ≡ goodFrom number (take n years) ⌝ }
 {
     let mut k: usize = 0;
-    while k < 5 {
+    while k < n {
         let y = years[k];
         let answer = check_year(y);
         if let Answer::Refused(_) = answer {
@@ -59,16 +63,17 @@ fn good_from(years: [Year; 5], number: u8) -> bool
     true
 }
 
-// The five years are in range, and those of one assessment period, in order.
-fn good_years(years: [Year; 5]) -> bool
-    ensures { λ r. ⌜ r ≡ yearsGood years ⌝ }
+// The first n years are in range, and those of one assessment period, in order.
+fn good_years(years: [Year; Yearly::YEARS], n: usize) -> bool
+    requires { ⌜ (1 ≤ n) × (n ≤ periodYears) ⌝ }
+    ensures { λ r. ⌜ r ≡ yearsGood years n ⌝ }
 {
     let first = years[0];
     let number = first.number;
-    if number % 5 != 1 {
+    if number % (Yearly::YEARS as u8) != 1 {
         return false;
     }
-    good_from(years, number)
+    good_from(years, n, number)
 }
 
 // One year's amounts, where book, log and year are in range.
@@ -109,7 +114,7 @@ fn no_row() -> Row
 
 // The amounts with one year's put in at its place.
 fn with_row(yearly: Yearly, k: usize, row: Row) -> Yearly
-    requires { ⌜ k < 5 ⌝ }
+    requires { ⌜ k < periodYears ⌝ }
     ensures { λ r. ⌜ r ≡ withRow yearly k row ⌝ }
 {
     let revenue = row.revenue;
@@ -129,24 +134,30 @@ fn no_amounts() -> Yearly
     ensures { λ r. ⌜ r ≡ noAmounts ⌝ }
 {
     Yearly {
-        index: [0; 5],
-        revenue: [0; 5],
-        cap: [0; 5],
-        floor: [0; 5],
-        within: [0; 5],
+        index: [0; Yearly::YEARS],
+        revenue: [0; Yearly::YEARS],
+        cap: [0; Yearly::YEARS],
+        floor: [0; Yearly::YEARS],
+        within: [0; Yearly::YEARS],
     }
 }
 
-// The five years' amounts, where book, log and years are in range.
-fn amounts_of(book: Book, years: [Year; 5], log: Log) -> Filled
-    requires { ⌜ (bookHolds book (log .«regime_end») ≡ true) × (validLog log ≡ true) × (all goodYearRecord years ≡ true) ⌝ }
+// The first n years' amounts, where book, log and years are in range.
+fn amounts_of(book: Book, years: [Year; Yearly::YEARS], log: Log, n: usize) -> Filled
+    requires { ⌜
+        (n ≤ periodYears)
+        × (bookHolds book (log .«regime_end») ≡ true)
+        × (validLog log ≡ true)
+        × (all goodYearRecord (take n years) ≡ true)
+        ⌝ }
     ensures { λ r. ⌜
-        (r .fits ≡ all (yearFits book log) years) × (r .yearly ≡ cond (all (yearFits book log) years) (yearlyOf book years log) noAmounts)
+        (r .fits ≡ all (yearFits book log) (take n years))
+        × (r .yearly ≡ cond (all (yearFits book log) (take n years)) (yearlyOf book years log n) noAmounts)
         ⌝ }
 {
     let mut yearly = no_amounts();
     let mut k: usize = 0;
-    while k < 5 {
+    while k < n {
         let y = years[k];
         let row = row_of(book, y, log);
         if !row.fits {
@@ -161,21 +172,29 @@ fn amounts_of(book: Book, years: [Year; 5], log: Log) -> Filled
     Filled { fits: true, yearly }
 }
 
-// The assessment of a period of five years.
-pub fn assess_period(book: Book, years: [Year; 5], log: Log) -> Assessment
-    ensures { λ r. ⌜ PeriodGives book years log r ⌝ }
+// The assessment of the first n years of a period.
+fn assess_first(book: Book, years: [Year; Yearly::YEARS], log: Log, n: usize) -> Assessment
+    requires { ⌜ goodCount n ≡ true ⌝ }
+    ensures { λ r. ⌜ FirstGives book years log n r ⌝ }
 {
     let available = availability_of(book, log, 1);
     if let Availability::Refused(why) = available {
         return Assessment::Refused(why);
     }
-    if !good_years(years) {
+    if !good_years(years, n) {
         return Assessment::Refused(Refusal::BadYear);
     }
-    let amounts = amounts_of(book, years, log);
+    let amounts = amounts_of(book, years, log, n);
     if !amounts.fits {
         return Assessment::Refused(Refusal::TooLarge);
     }
     let yearly = amounts.yearly;
-    assess(yearly)
+    assess_years(yearly, n)
+}
+
+// The assessment of a period, over all of its years.
+pub fn assess_period(book: Book, years: [Year; Yearly::YEARS], log: Log) -> Assessment
+    ensures { λ r. ⌜ PeriodGives book years log r ⌝ }
+{
+    assess_first(book, years, log, Yearly::YEARS)
 }

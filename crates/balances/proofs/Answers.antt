@@ -2,7 +2,7 @@
 use mathlib.Core.Path.{_≡_, refl, sym, ap, _∙_}
 use mathlib.Core.Bool.{Bool, true, false, not, cond, _&&_}
 use mathlib.Core.List.{List, [], _∷_}
-use Prim.Native.Nat.{ℕ, _≤_}
+use Prim.Native.Nat.{ℕ, _-_, _≤_}
 use native.Mathlib.Omega.{arith}
 use lib.Dec.{eqb}
 use lib.IntN.{ℤ, natAbs, _-ℤ_}
@@ -13,8 +13,9 @@ use Rattle.balances.specs.declared.carrying.Balance.{Balance}
 use Rattle.balances.specs.declared.carrying.Balance.the-variants.{Is, Over}
 use Rattle.balances.specs.declared.assessing.Yearly.{Yearly}
 use Rattle.balances.specs.declared.assessing.Assessment.{Assessment}
-use Rattle.balances.specs.Balance.{balanceAfter, mostBalance, laterWithin, carriedOf, goodAmounts}
-use Rattle.balances.specs.Assessment.{goodYearly, ARN, CLN, FLN, WPAN, balancesWithin, heldBetween, figuresOf, noFigures, assessRows, assessGiven, assessNumber, assessFigures, Bounded, foundRows, foundFigures}
+use Rattle.balances.specs.Balance.{balanceAfter, mostBalance, laterWithin, goodAmounts}
+use Rattle.balances.specs.Steps.{balanceOf, Bounded, foundRows, foundFigures}
+use Rattle.balances.specs.Assessment.{goodYearly, ARN, CLN, FLN, WPAN, balancesWithin, heldBetween, figuresOf, figuresIn, noFigures, assessRowsOf, assessGivenOf, assessNumber, assessFigures, YearsGives}
 use Rattle.balances.proofs.Years.{years-small}
 
 -- ---- four balances, each with its test
@@ -46,37 +47,37 @@ kept-figures true true false v a c f w = refl
 kept-figures true false u v a c f w = refl
 kept-figures false t u v a c f w = refl
 
--- ---- the call's rows, from its balances
-pub carried-bounded : (index : List ℕ) (amounts : List ℤ) → goodAmounts index amounts 5 ≡ true → Bounded (carriedOf index amounts 0 4)
-carried-bounded index amounts good = kept-bounded (laterWithin index amounts 0 4) (balanceAfter index amounts 4) (years-small index amounts 4 4 good)
-
--- the balance of five years' amounts
-abbrev pub of : Yearly → List ℤ → Balance
-of y amounts = carriedOf (y .index) amounts 0 4
+-- ---- the call's rows, from its balances, over n years
+pub balance-bounded : (index : List ℕ) (amounts : List ℤ) (n : ℕ) → 1 ≤ n → goodAmounts index amounts n ≡ true → Bounded (balanceOf index amounts n)
+balance-bounded index amounts n some good =
+    kept-bounded (laterWithin index amounts 0 (n - 1)) (balanceAfter index amounts (n - 1)) (years-small index amounts n some good)
 
 past-nine : (t : Bool) (n : ℕ) → t ≡ true → cond (not t) 9 n ≡ n
 past-nine t n e = simp e
 
-module _ (y : Yearly) (good : goodYearly y 5 ≡ true) where
-  rows-left : lowest (assessRows y) ≡ lowest (rowsLeft (balancesWithin y 5) (CLN y 5) (FLN y 5))
-  rows-left = past-nine (goodYearly y 5) (lowest (rowsLeft (balancesWithin y 5) (CLN y 5) (FLN y 5))) good
+module _ (y : Yearly) (n : ℕ) (good : goodYearly y n ≡ true) where
+  abbrev of : List ℤ → Balance
+  of amounts = balanceOf (y .index) amounts n
 
-  found-number : lowest (foundRows (of y (y .revenue)) (of y (y .cap)) (of y (y .floor)) (of y (y .within))) ≡ lowest (assessRows y)
+  abbrev test : List ℤ → Bool
+  test amounts = laterWithin (y .index) amounts 0 (n - 1)
+
+  rows-left : lowest (assessRowsOf y n) ≡ lowest (rowsLeft (balancesWithin y n) (CLN y n) (FLN y n))
+  rows-left = past-nine (goodYearly y n) (lowest (rowsLeft (balancesWithin y n) (CLN y n) (FLN y n))) good
+
+  found-number : lowest (foundRows (of (y .revenue)) (of (y .cap)) (of (y .floor)) (of (y .within))) ≡ lowest (assessRowsOf y n)
   found-number =
-      kept-rows (laterWithin (y .index) (y .revenue) 0 4) (laterWithin (y .index) (y .cap) 0 4) (laterWithin (y .index) (y .floor) 0 4) (laterWithin (y .index) (y .within) 0 4)
-      (ARN y 5) (CLN y 5) (FLN y 5) (WPAN y 5)
-      ∙ sym rows-left
+      kept-rows (test (y .revenue)) (test (y .cap)) (test (y .floor)) (test (y .within)) (ARN y n) (CLN y n) (FLN y n) (WPAN y n) ∙ sym rows-left
 
-  found-given : foundFigures (of y (y .revenue)) (of y (y .cap)) (of y (y .floor)) (of y (y .within)) ≡ assessGiven y
+  found-given : foundFigures (of (y .revenue)) (of (y .cap)) (of (y .floor)) (of (y .within)) ≡ assessGivenOf y n
   found-given =
-      kept-figures (laterWithin (y .index) (y .revenue) 0 4) (laterWithin (y .index) (y .cap) 0 4) (laterWithin (y .index) (y .floor) 0 4) (laterWithin (y .index) (y .within) 0 4)
-      (ARN y 5) (CLN y 5) (FLN y 5) (WPAN y 5)
-      ∙ ap (λ (n : ℕ). cond (eqb n 0) (figuresOf (ARN y 5) (CLN y 5) (FLN y 5) (WPAN y 5)) noFigures) (sym rows-left)
+      kept-figures (test (y .revenue)) (test (y .cap)) (test (y .floor)) (test (y .within)) (ARN y n) (CLN y n) (FLN y n) (WPAN y n)
+      ∙ ap (λ (k : ℕ). cond (eqb k 0) (figuresIn y n) noFigures) (sym rows-left)
 
   -- what four balances give, each of its amounts, is what the call gives
-  pub found-is : (r : Assessment) (a c f w : Balance) → a ≡ of y (y .revenue) → c ≡ of y (y .cap) → f ≡ of y (y .floor) → w ≡ of y (y .within)
+  pub found-is : (r : Assessment) (a c f w : Balance) → a ≡ of (y .revenue) → c ≡ of (y .cap) → f ≡ of (y .floor) → w ≡ of (y .within)
       → (assessNumber r ≡ lowest (foundRows a c f w)) × (assessFigures r ≡ foundFigures a c f w)
-      → (assessNumber r ≡ lowest (assessRows y)) × (assessFigures r ≡ assessGiven y)
+      → YearsGives y n r
   found-is r a c f w ea ec ef ew g = let h = rw (ea, ec, ef, ew) at g in (h .0 ∙ found-number, h .1 ∙ found-given)
 
 -- ---- figures of the same balances are the same

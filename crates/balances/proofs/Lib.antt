@@ -4,4 +4,5 @@ pub mod Years
 pub mod Answers
 pub mod Only
 pub mod Licence
+pub mod Answered
 pub mod NetPresent

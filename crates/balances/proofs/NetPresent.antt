@@ -17,7 +17,7 @@ use Rattle.balances.specs.declared.assessing.Yearly.{Yearly}
 use Rattle.balances.specs.Balance.{carryOf, balanceAfter, goodAmounts}
 use Rattle.balances.specs.NetPresent.{growthOver, growthUnder, productLater, upliftOver, upliftUnder, commonDivisor, UF, sumTo, netPresent, exactBalance, sumLater, roundings, Near, FiveUplifts, NearLicence}
 use Rattle.balances.specs.Assessment.{goodYearly}
-use Rattle.balances.proofs.Ranges.{index-good, index-low, good-parts}
+use Rattle.balances.proofs.Ranges.{index-good, index-low, yearly-says}
 
 -- ---- products over the later years
 module _ (factor : ℕ → ℕ) where
@@ -200,11 +200,11 @@ module _ (index : List ℕ) (amounts : List ℤ) where
 -- where the years are in range, each is near its net present value
 pub assessed-near : (y : Yearly) (n : ℕ) → goodYearly y n ≡ true → NearLicence y n
 assessed-near y n good =
-    let parts = good-parts y n good in
+    let says = yearly-says y n good in
     let le : n - 1 ≤ n = omega arith in
     record {
-      revenue = good-near (y .index) (y .revenue) (n - 1) n (parts .revenue) le;
-      cap = good-near (y .index) (y .cap) (n - 1) n (parts .cap) le;
-      floor = good-near (y .index) (y .floor) (n - 1) n (parts .floor) le;
-      within = good-near (y .index) (y .within) (n - 1) n (parts .within) le;
+      revenue = good-near (y .index) (y .revenue) (n - 1) n (says .revenue) le;
+      cap = good-near (y .index) (y .cap) (n - 1) n (says .cap) le;
+      floor = good-near (y .index) (y .floor) (n - 1) n (says .floor) le;
+      within = good-near (y .index) (y .within) (n - 1) n (says .within) le;
     }

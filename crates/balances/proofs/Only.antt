@@ -2,13 +2,15 @@
 use mathlib.Core.Path.{_≡_, refl, sym, _∙_}
 use mathlib.Core.Logic.{_⊎_, inl, inr}
 use mathlib.Core.Bool.{true}
+use Prim.Native.Nat.{ℕ}
 use Rattle.refusals.specs.Refusals.{inTurn, standIn}
 use Rattle.refusals.specs.Answers.{One}
 use Rattle.refusals.proofs.Cases.{Refusing, Answers, same-case, one-case}
 use Rattle.balances.specs.declared.assessing.Yearly.{Yearly}
 use Rattle.balances.specs.declared.assessing.Assessment.{Assessment}
 use Rattle.balances.specs.declared.assessing.Assessment.the-variants.{Found, Refused}
-use Rattle.balances.specs.Assessment.{ARN, CLN, FLN, WPAN, figuresOf, noFigures, assessRows, assessNumber, assessFigures, AssessGives}
+use Rattle.balances.specs.Balance.{periodYears}
+use Rattle.balances.specs.Assessment.{figuresIn, noFigures, assessRowsOf, assessRows, assessNumber, assessFigures, YearsGives, AssessGives}
 
 assess-cases : (r : Assessment) → (r ≡ Found (assessFigures r)) ⊎ Refusing Refused r
 assess-cases (Found figures) = inl refl
@@ -23,11 +25,22 @@ assess-answers = record {
   cases = assess-cases;
 }
 
+-- ---- over n years
+pub only-years : (y : Yearly) (n : ℕ) (r s : Assessment) → YearsGives y n r → YearsGives y n s → r ≡ s
+only-years y n r s p q = same-case assess-answers r s (p .0 ∙ sym (q .0)) (p .1 ∙ sym (q .1))
+
+pub one-years : (y : Yearly) (n : ℕ) → One (YearsGives y n)
+one-years y n = one-case assess-answers (assessRowsOf y n) (figuresIn y n)
+
+pub years-in-turn : (y : Yearly) (n : ℕ) → standIn inTurn (assessRowsOf y n) ≡ true
+years-in-turn y n = refl
+
+-- ---- over the years of a period
 pub only-assess : (y : Yearly) (r s : Assessment) → AssessGives y r → AssessGives y s → r ≡ s
-only-assess y r s p q = same-case assess-answers r s (p .0 ∙ sym (q .0)) (p .1 ∙ sym (q .1))
+only-assess y = only-years y periodYears
 
 pub one-assess : (y : Yearly) → One (AssessGives y)
-one-assess y = one-case assess-answers (assessRows y) (figuresOf (ARN y 5) (CLN y 5) (FLN y 5) (WPAN y 5))
+one-assess y = one-years y periodYears
 
 pub assess-in-turn : (y : Yearly) → standIn inTurn (assessRows y) ≡ true
-assess-in-turn y = refl
+assess-in-turn y = years-in-turn y periodYears

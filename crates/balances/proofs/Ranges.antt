@@ -13,7 +13,7 @@ use lib.Signed.{nonNeg}
 use borrow.Author.Tests.{leb-true}
 use Rattle.lists.proofs.Tests.{and-left, and-right}
 use Rattle.balances.specs.declared.assessing.Yearly.{Yearly}
-use Rattle.balances.specs.Balance.{goodIndex, goodAmount, goodAmounts}
+use Rattle.balances.specs.Balance.{periodYears, goodCount, goodIndex, goodAmount, goodAmounts}
 use Rattle.balances.specs.Assessment.{notNegative, goodYearly}
 
 -- ---- indices and amounts
@@ -82,21 +82,40 @@ module _ (amounts : List ℤ) where
     pub positive-on : nonNeg (getD amounts (n - 1) (pos 0)) ≡ true → notNegative amounts (n - 1) ≡ notNegative amounts n
     positive-on e = sym (positive-last n some ∙ simp e)
 
--- ---- the parts of `goodYearly`
-pub record GoodParts (y : Yearly) (n : ℕ) : Type 0 where
+-- ---- how many years there are
+pub record CountSays (n : ℕ) : Type 0 where
+  pub some : 1 ≤ n
+  pub room : n ≤ periodYears
+
+pub count-says : (n : ℕ) → goodCount n ≡ true → CountSays n
+count-says n g = record {
+  some = leb-true 1 n (and-left (leb 1 n) (leb n periodYears) g);
+  room = leb-true n periodYears (and-right (leb 1 n) (leb n periodYears) g);
+}
+
+-- ---- what years in range say
+pub record YearlySays (y : Yearly) (n : ℕ) : Type 0 where
+  pub count : CountSays n
   pub revenue : goodAmounts (y .index) (y .revenue) n ≡ true
   pub cap : goodAmounts (y .index) (y .cap) n ≡ true
   pub floor : goodAmounts (y .index) (y .floor) n ≡ true
   pub within : goodAmounts (y .index) (y .within) n ≡ true
 
-all-six : (a b c d e f : Bool) → (a && (b && (c && (d && (e && f))))) ≡ true → (a ≡ true) × (b ≡ true) × (d ≡ true) × (f ≡ true)
-all-six a b c d e f h =
-    let h1 = and-right a (b && (c && (d && (e && f)))) h in
-    let h2 = and-right b (c && (d && (e && f))) h1 in
-    let h3 = and-right c (d && (e && f)) h2 in
-    (and-left a (b && (c && (d && (e && f)))) h, and-left b (c && (d && (e && f))) h1, and-left d (e && f) h3, and-right e f (and-right d (e && f) h3))
-
-pub good-parts : (y : Yearly) (n : ℕ) → goodYearly y n ≡ true → GoodParts y n
-good-parts y n good =
-    let h = all-six (goodAmounts (y .index) (y .revenue) n) (goodAmounts (y .index) (y .cap) n) (notNegative (y .cap) n) (goodAmounts (y .index) (y .floor) n) (notNegative (y .floor) n) (goodAmounts (y .index) (y .within) n) good in
-    record { revenue = h .0; cap = h .1; floor = h .2; within = h .3 }
+pub yearly-says : (y : Yearly) (n : ℕ) → goodYearly y n ≡ true → YearlySays y n
+yearly-says y n good =
+    let a = goodAmounts (y .index) (y .revenue) n in
+    let b = goodAmounts (y .index) (y .cap) n in
+    let c = notNegative (y .cap) n in
+    let d = goodAmounts (y .index) (y .floor) n in
+    let e = notNegative (y .floor) n in
+    let f = goodAmounts (y .index) (y .within) n in
+    let h = and-right (goodCount n) (a && (b && (c && (d && (e && f))))) good in
+    let i = and-right a (b && (c && (d && (e && f)))) h in
+    let j = and-right c (d && (e && f)) (and-right b (c && (d && (e && f))) i) in
+    record {
+      count = count-says n (and-left (goodCount n) (a && (b && (c && (d && (e && f))))) good);
+      revenue = and-left a (b && (c && (d && (e && f)))) h;
+      cap = and-left b (c && (d && (e && f))) i;
+      floor = and-left d (e && f) j;
+      within = and-right e f (and-right d (e && f) j);
+    }

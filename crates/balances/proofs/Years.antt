@@ -3,7 +3,7 @@ use mathlib.Core.Path.{_≡_, refl, _∙_}
 use mathlib.Core.Bool.{true, false}
 use mathlib.Core.List.{List}
 use Prim.Native.Nat.{ℕ, zero, suc, _+_, _*_, _-_, _≤_}
-use native.Mathlib.Nat.{mul-le-mul, mul-le-mul-left, le-trans}
+use native.Mathlib.Nat.{mul-le-mul, mul-le-mul-left, le-trans, zero-add}
 use native.Mathlib.Numerals.{add-one}
 use native.Mathlib.Omega.{arith}
 use lib.Dec.{leb}
@@ -15,7 +15,8 @@ use Rattle.money.specs.Rounding.{scaledOf}
 use Rattle.money.proofs.Nearest.{scaled-is, scaled-small}
 use Rattle.balances.specs.declared.carrying.Balance.{Balance}
 use Rattle.balances.specs.declared.carrying.Balance.the-variants.{Is, Over}
-use Rattle.balances.specs.Balance.{carryOf, balanceAfter, mostBalance, laterWithin, carriedOf, goodAmounts}
+use Rattle.balances.specs.Balance.{carryOf, balanceAfter, mostBalance, laterWithin, goodAmounts}
+use Rattle.balances.specs.Steps.{carriedOf, balanceOf}
 use Rattle.balances.proofs.Ranges.{amount-small}
 
 -- ---- one carry
@@ -70,5 +71,10 @@ module _ (index : List ℕ) (amounts : List ℤ) where
       rw on at (later-small (at + 1) k small (and-right t (laterWithin index amounts (at + 1) k) e))
 
   -- and so is one that starts as an amount in range
-  pub years-small : (n left : ℕ) → goodAmounts index amounts (suc n) ≡ true → laterWithin index amounts 0 left ≡ true → natAbs (balanceAfter index amounts (0 + left)) ≤ mostBalance
-  years-small n left good e = later-small 0 left (rw starts (omega (arith, amount-small index amounts (suc n) good 0 (omega arith)))) e
+  pub years-small : (n : ℕ) → 1 ≤ n → goodAmounts index amounts n ≡ true → laterWithin index amounts 0 (n - 1) ≡ true → natAbs (balanceAfter index amounts (n - 1)) ≤ mostBalance
+  years-small n some good e =
+      rw (zero-add (n - 1)) at (later-small 0 (n - 1) (rw starts (omega (arith, amount-small index amounts n good 0 some))) e)
+
+  -- carried from the first year on it is the balance of all the years
+  pub from-first : (n : ℕ) → carriedOf index amounts 0 (n - 1) ≡ balanceOf index amounts n
+  from-first n = rw zero-add

@@ -1,33 +1,35 @@
--- The assessment: document 000, SC3 4 to 8; document 01, "Assessment". Over any number of years, five among them.
-use mathlib.Core.Bool.{Bool, true, false, cond, not, _&&_, _||_}
+-- The assessment: document 000, SC3 4 to 8; document 01, "Assessment". Over the first n of five years; that of a whole period has all five.
+use mathlib.Core.Bool.{Bool, true, cond, not, _&&_}
 use mathlib.Core.List.{List, [], _∷_}
 use mathlib.Core.Path.{_≡_}
-use Prim.Native.Nat.{ℕ, zero, suc, _-_, _≤_}
+use Prim.Native.Nat.{ℕ, zero, suc, _-_}
 use lib.Dec.{eqb}
 use lib.ListN.{getD}
 use lib.IntN.{ℤ, pos, negℤ, natAbs, _-ℤ_}
 use lib.Signed.{ltZ, nonNeg}
 use Rattle.refusals.specs.Refusals.{Rows, accepted, numberOf, lowest}
 use Rattle.refusals.specs.declared.Refusal.the-variants.{BadYear, TooLarge, FloorAboveCap}
-use Rattle.balances.specs.declared.carrying.Balance.{Balance}
-use Rattle.balances.specs.declared.carrying.Balance.the-variants.{Is, Over}
 use Rattle.balances.specs.declared.assessing.Yearly.{Yearly}
 use Rattle.balances.specs.declared.assessing.Figures.{Figures}
 use Rattle.balances.specs.declared.assessing.Assessment.{Assessment}
 use Rattle.balances.specs.declared.assessing.Assessment.the-variants.{Found, Refused}
-use Rattle.balances.specs.Balance.{balanceAfter, laterWithin, goodAmounts, mostBalance}
+use Rattle.balances.specs.Balance.{periodYears, goodCount, balanceAfter, laterWithin, goodAmounts}
 
 -- ---- "Yearly amounts have magnitude at most 10^9, caps and floors not negative": of the first n years
 unfoldable pub notNegative : List ℤ → ℕ → Bool
 notNegative amounts zero = true
 notNegative amounts (suc n) = nonNeg (getD amounts n (pos 0)) && notNegative amounts n
 
-abbrev pub goodYearly : Yearly → ℕ → Bool
-goodYearly y n =
+abbrev pub goodRows : Yearly → ℕ → Bool
+goodRows y n =
     goodAmounts (y .index) (y .revenue) n
     && (goodAmounts (y .index) (y .cap) n
     && (notNegative (y .cap) n
     && (goodAmounts (y .index) (y .floor) n && (notNegative (y .floor) n && goodAmounts (y .index) (y .within) n))))
+
+-- and n is one to five
+abbrev pub goodYearly : Yearly → ℕ → Bool
+goodYearly y n = goodCount n && goodRows y n
 
 -- ---- "Four balances: revenue A, cap C, floor F, within-period adjustments W", over n years (SC3 9, 11, 12, 13)
 abbrev pub ARN : Yearly → ℕ → ℤ
@@ -62,21 +64,25 @@ figuresOf revenue cap floor paid = record {
   adjustment = heldBetween revenue floor cap -ℤ revenue -ℤ paid;
 }
 
+-- those of n years
+abbrev pub figuresIn : Yearly → ℕ → Figures
+figuresIn y n = figuresOf (ARN y n) (CLN y n) (FLN y n) (WPAN y n)
+
 abbrev pub noFigures : Figures
 noFigures = record { revenue = pos 0; cap = pos 0; floor = pos 0; within = pos 0; held = pos 0; adjustment = pos 0 }
 
--- ---- the call
+-- ---- the call, over n years
 abbrev pub assessRowsOf : Yearly → ℕ → Rows
 assessRowsOf y n = (BadYear, not (goodYearly y n)) ∷ (TooLarge, not (balancesWithin y n)) ∷ (FloorAboveCap, ltZ (CLN y n) (FLN y n)) ∷ []
 
 abbrev pub assessGivenOf : Yearly → ℕ → Figures
-assessGivenOf y n = cond (accepted (assessRowsOf y n)) (figuresOf (ARN y n) (CLN y n) (FLN y n) (WPAN y n)) noFigures
+assessGivenOf y n = cond (accepted (assessRowsOf y n)) (figuresIn y n) noFigures
 
 abbrev pub assessRows : Yearly → Rows
-assessRows y = assessRowsOf y 5
+assessRows y = assessRowsOf y periodYears
 
 abbrev pub assessGiven : Yearly → Figures
-assessGiven y = assessGivenOf y 5
+assessGiven y = assessGivenOf y periodYears
 
 abbrev pub assessNumber : Assessment → ℕ
 assessNumber (Found figures) = 0
@@ -86,32 +92,13 @@ abbrev pub assessFigures : Assessment → Figures
 assessFigures (Found figures) = figures
 assessFigures (Refused why) = noFigures
 
--- what `assess` promises of its result
+-- what `assess_years` promises of its result
+abbrev pub YearsGives : Yearly → ℕ → Assessment → Type 0
+YearsGives y n r = (assessNumber r ≡ lowest (assessRowsOf y n)) × (assessFigures r ≡ assessGivenOf y n)
+
+-- what `assess` promises of its result: the years of a whole period
 abbrev pub AssessGives : Yearly → Assessment → Type 0
 AssessGives y r = (assessNumber r ≡ lowest (assessRows y)) × (assessFigures r ≡ assessGiven y)
-
--- ---- the same from four balances
-abbrev pub isOver : Balance → Bool
-isOver (Is z) = false
-isOver Over = true
-
-abbrev pub valueOf : Balance → ℤ
-valueOf (Is z) = z
-valueOf Over = pos 0
-
-abbrev pub Bounded : Balance → Type 0
-Bounded b = natAbs (valueOf b) ≤ mostBalance
-
-abbrev pub oneOver : Balance → Balance → Balance → Balance → Bool
-oneOver revenue cap floor paid = isOver revenue || (isOver cap || (isOver floor || isOver paid))
-
-abbrev pub foundRows : Balance → Balance → Balance → Balance → Rows
-foundRows revenue cap floor paid =
-    (TooLarge, oneOver revenue cap floor paid) ∷ (FloorAboveCap, ltZ (valueOf cap) (valueOf floor)) ∷ []
-
-abbrev pub foundFigures : Balance → Balance → Balance → Balance → Figures
-foundFigures revenue cap floor paid =
-    cond (accepted (foundRows revenue cap floor paid)) (figuresOf (valueOf revenue) (valueOf cap) (valueOf floor) (valueOf paid)) noFigures
 
 -- ---- the licence's own words: document 000, SC3 4 to 8
 -- SC3 5 and 6: the Revenue Excess At Cap

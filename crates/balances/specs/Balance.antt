@@ -1,13 +1,19 @@
 -- Balances: document 000, SC3 9, 11, 12, 13 (the sums) and 16, 17, 18 (the uplift); document 01, "Assessment". Over any number of years.
-use mathlib.Core.Bool.{Bool, true, cond, _&&_}
+use mathlib.Core.Bool.{Bool, true, _&&_}
 use mathlib.Core.List.{List}
 use Prim.Native.Nat.{ℕ, zero, suc, _+_, _*_}
 use lib.Dec.{leb}
 use lib.ListN.{getD}
 use lib.IntN.{ℤ, pos, natAbs, _+ℤ_, _*ℤ_}
 use Rattle.money.specs.Rounding.{roundZ}
-use Rattle.balances.specs.declared.carrying.Balance.{Balance}
-use Rattle.balances.specs.declared.carrying.Balance.the-variants.{Is, Over}
+
+-- the years of an assessment period, and of the room for what they bring: an assessment is over the first n of them
+abbrev pub periodYears : ℕ
+periodYears = 5
+
+-- one year to five
+abbrev pub goodCount : ℕ → Bool
+goodCount n = leb 1 n && leb n periodYears
 
 -- ---- "1.0388 x PPPI(t)/PPPI(t-1)" (SC3 17, 18), "rounded"
 unfoldable pub carryOf : ℤ → ℕ → ℕ → ℤ
@@ -28,10 +34,6 @@ unfoldable pub laterWithin : List ℕ → List ℤ → ℕ → ℕ → Bool
 laterWithin index amounts from zero = true
 laterWithin index amounts from (suc left) =
     leb (natAbs (balanceAfter index amounts (from + 1))) mostBalance && laterWithin index amounts (from + 1) left
-
--- the balance after those years, or none
-abbrev pub carriedOf : List ℕ → List ℤ → ℕ → ℕ → Balance
-carriedOf index amounts from left = cond (laterWithin index amounts from left) (Is (balanceAfter index amounts (from + left))) Over
 
 -- ---- "Yearly amounts have magnitude at most 10^9"; "PPPI 5,000 to 50,000": of the first n years
 abbrev pub goodIndex : ℕ → Bool

@@ -1,4 +1,5 @@
--- Balances over the years, the assessment, and the net present values that the balances stand for.
+-- Balances over the years, the assessment, what the functions inside are stated by, and the net present values that the balances stand for.
 pub mod Balance
 pub mod Assessment
 pub mod NetPresent
+pub mod Steps

@@ -10,19 +10,24 @@ ghost use mathlib.Core.Path.{_≡_};
 ghost use Prim.Native.Nat.{_≤_};
 ghost use lib.IntN.{natAbs};
 ghost use Rattle.refusals.specs.Refusals.{lowest};
-ghost use Rattle.balances.specs.Balance.{goodAmounts, goodIndex, mostBalance};
-ghost use Rattle.balances.specs.Assessment.{Bounded, assessFigures, assessNumber, figuresOf, foundFigures, foundRows, goodYearly, heldBetween, isOver, notNegative, oneOver, valueOf, AssessGives};
+ghost use Rattle.balances.specs.Balance.{goodAmounts, goodCount, goodIndex, mostBalance, periodYears};
+ghost use Rattle.balances.specs.Assessment.{assessFigures, assessNumber, figuresOf, goodRows, goodYearly, heldBetween, notNegative, AssessGives, YearsGives};
+ghost use Rattle.balances.specs.Steps.{Bounded, foundFigures, foundRows, isOver, oneOver, valueOf};
 
-// What an assessment period's years bring: index, assessed revenue, cap and floor level, within-period adjustment.
+// What the years of an assessment period bring: index, assessed revenue, cap and floor level, within-period adjustment. An
+// assessment is over the first n of them.
 pub struct Yearly {
-    pub index: [u32; 5],
-    pub revenue: [i64; 5],
-    pub cap: [i64; 5],
-    pub floor: [i64; 5],
-    pub within: [i64; 5],
+    pub index: [u32; Yearly::YEARS],
+    pub revenue: [i64; Yearly::YEARS],
+    pub cap: [i64; Yearly::YEARS],
+    pub floor: [i64; Yearly::YEARS],
+    pub within: [i64; Yearly::YEARS],
 }
 
 impl Yearly {
+    // The years of a period.
+    pub const YEARS: usize = 5;
+
     pub const LEAST_INDEX: u32 = 5_000;
 
     pub const MOST_INDEX: u32 = 50_000;
@@ -54,8 +59,8 @@ fn good_index(i: u32) -> bool
 }
 
 // The first n years' indices and amounts are in range.
-fn good_amounts(index: [u32; 5], amounts: [i64; 5], n: usize) -> bool
-    requires { ⌜ n ≤ 5 ⌝ }
+fn good_amounts(index: [u32; Yearly::YEARS], amounts: [i64; Yearly::YEARS], n: usize) -> bool
+    requires { ⌜ n ≤ periodYears ⌝ }
     ensures { λ r. ⌜ r ≡ goodAmounts index amounts n ⌝ }
 {
     if n == 0 {
@@ -73,8 +78,8 @@ fn good_amounts(index: [u32; 5], amounts: [i64; 5], n: usize) -> bool
 }
 
 // None of the first n amounts is negative.
-fn not_negative(amounts: [i64; 5], n: usize) -> bool
-    requires { ⌜ n ≤ 5 ⌝ }
+fn not_negative(amounts: [i64; Yearly::YEARS], n: usize) -> bool
+    requires { ⌜ n ≤ periodYears ⌝ }
     ensures { λ r. ⌜ r ≡ notNegative amounts n ⌝ }
 {
     if n == 0 {
@@ -87,30 +92,49 @@ fn not_negative(amounts: [i64; 5], n: usize) -> bool
     not_negative(amounts, n - 1)
 }
 
-fn good_yearly(y: Yearly) -> bool
-    ensures { λ r. ⌜ r ≡ goodYearly y 5 ⌝ }
+// One year to five.
+fn good_count(n: usize) -> bool
+    ensures { λ r. ⌜ r ≡ goodCount n ⌝ }
+{
+    1 <= n && n <= Yearly::YEARS
+}
+
+// The first n years are in range.
+fn good_rows(y: Yearly, n: usize) -> bool
+    requires { ⌜ n ≤ periodYears ⌝ }
+    ensures { λ r. ⌜ r ≡ goodRows y n ⌝ }
 {
     let index = y.index;
     let revenue = y.revenue;
     let cap = y.cap;
     let floor = y.floor;
     let paid = y.within;
-    if !good_amounts(index, revenue, 5) {
+    if !good_amounts(index, revenue, n) {
         return false;
     }
-    if !good_amounts(index, cap, 5) {
+    if !good_amounts(index, cap, n) {
         return false;
     }
-    if !not_negative(cap, 5) {
+    if !not_negative(cap, n) {
         return false;
     }
-    if !good_amounts(index, floor, 5) {
+    if !good_amounts(index, floor, n) {
         return false;
     }
-    if !not_negative(floor, 5) {
+    if !not_negative(floor, n) {
         return false;
     }
-    good_amounts(index, paid, 5)
+    good_amounts(index, paid, n)
+}
+
+// And n is one to five.
+fn good_yearly(y: Yearly, n: usize) -> bool
+    ensures { λ r. ⌜ r ≡ goodYearly y n ⌝ }
+{
+    if !good_count(n) {
+        return false;
+    }
+    good_rows(y, n)
 }
 
 // T: revenue held between floor and cap.
@@ -204,11 +228,11 @@ fn found(revenue: Balance, cap: Balance, floor: Balance, paid: Balance) -> Asses
     Assessment::Found(figures_of(a, c, f, w))
 }
 
-// The assessment of five years' amounts.
-pub fn assess(y: Yearly) -> Assessment
-    ensures { λ r. ⌜ AssessGives y r ⌝ }
+// The assessment of the first n years' amounts; 9 too where n is not one to five.
+pub fn assess_years(y: Yearly, n: usize) -> Assessment
+    ensures { λ r. ⌜ YearsGives y n r ⌝ }
 {
-    if !good_yearly(y) {
+    if !good_yearly(y, n) {
         return Assessment::Refused(Refusal::BadYear);
     }
     let index = y.index;
@@ -217,9 +241,16 @@ pub fn assess(y: Yearly) -> Assessment
     let floor = y.floor;
     let paid = y.within;
     found(
-        balance_of(index, revenue, 5),
-        balance_of(index, cap, 5),
-        balance_of(index, floor, 5),
-        balance_of(index, paid, 5),
+        balance_of(index, revenue, n),
+        balance_of(index, cap, n),
+        balance_of(index, floor, n),
+        balance_of(index, paid, n),
     )
+}
+
+// The assessment of a whole period's amounts.
+pub fn assess(y: Yearly) -> Assessment
+    ensures { λ r. ⌜ AssessGives y r ⌝ }
+{
+    assess_years(y, Yearly::YEARS)
 }

@@ -1,13 +1,15 @@
 // A balance carried over the years, the same for revenue, cap, floor and within-period adjustments.
+use super::assessing::Yearly;
 use money::plus;
 use money::scaled;
 use money::within;
 ghost use mathlib.Core.Path.{_≡_};
 ghost use mathlib.Core.Bool.{true};
-ghost use Prim.Native.Nat.{_+_, _-_, _≤_, _<_};
+ghost use Prim.Native.Nat.{_+_, _≤_, _<_};
 ghost use lib.IntN.{natAbs};
 ghost use lib.ListN.{getD};
-ghost use Rattle.balances.specs.Balance.{balanceAfter, carriedOf, carryOf, goodAmounts, goodIndex, mostBalance};
+ghost use Rattle.balances.specs.Balance.{balanceAfter, carryOf, goodAmounts, goodIndex, mostBalance, periodYears};
+ghost use Rattle.balances.specs.Steps.{balanceOf, carriedOf};
 
 // A balance, or none: above 10^10 in magnitude after some year.
 pub(crate) enum Balance {
@@ -28,9 +30,9 @@ fn carry(balance: i64, before: u32, now: u32) -> i64
 }
 
 // The balance after the year `at`, carried to the next year.
-fn brought_on(index: [u32; 5], at: usize, balance: i64) -> i64
+fn brought_on(index: [u32; Yearly::YEARS], at: usize, balance: i64) -> i64
     requires { ⌜
-        (at + 1 < 5)
+        (at + 1 < periodYears)
         × (natAbs balance ≤ mostBalance)
         × (goodIndex (getD index at 0) ≡ true)
         × (goodIndex (getD index (at + 1) 0) ≡ true)
@@ -43,10 +45,16 @@ fn brought_on(index: [u32; 5], at: usize, balance: i64) -> i64
 }
 
 // The balance after the years left, from that after the year `at`.
-fn carried(index: [u32; 5], amounts: [i64; 5], at: usize, balance: i64, left: usize) -> Balance
+fn carried(
+    index: [u32; Yearly::YEARS],
+    amounts: [i64; Yearly::YEARS],
+    at: usize,
+    balance: i64,
+    left: usize,
+) -> Balance
     requires { ⌜
-        (at + left < 5)
-        × (goodAmounts index amounts 5 ≡ true)
+        (at + left < periodYears)
+        × (goodAmounts index amounts (at + left + 1) ≡ true)
         × (natAbs balance ≤ mostBalance)
         × (balance ≡ balanceAfter index amounts at)
         ⌝ }
@@ -65,11 +73,15 @@ fn carried(index: [u32; 5], amounts: [i64; 5], at: usize, balance: i64, left: us
     }
 }
 
-// The balance of so many years.
-pub(crate) fn balance_of(index: [u32; 5], amounts: [i64; 5], years: usize) -> Balance
-    requires { ⌜ (0 < years) × (years ≤ 5) × (goodAmounts index amounts 5 ≡ true) ⌝ }
-    ensures { λ r. ⌜ r ≡ carriedOf index amounts 0 (years - 1) ⌝ }
+// The balance of the first n years.
+pub(crate) fn balance_of(
+    index: [u32; Yearly::YEARS],
+    amounts: [i64; Yearly::YEARS],
+    n: usize,
+) -> Balance
+    requires { ⌜ (1 ≤ n) × (n ≤ periodYears) × (goodAmounts index amounts n ≡ true) ⌝ }
+    ensures { λ r. ⌜ r ≡ balanceOf index amounts n ⌝ }
 {
     let first = amounts[0];
-    carried(index, amounts, 0, first, years - 1)
+    carried(index, amounts, 0, first, n - 1)
 }

@@ -1,4 +1,4 @@
-// Carried balances and the assessment of five years' amounts: document 000, SC3; document 01, "Assessment".
+// Carried balances and the assessment of years' amounts: document 000, SC3; document 01, "Assessment".
 mod assessing;
 mod carrying;
 
@@ -6,3 +6,4 @@ pub use assessing::Assessment;
 pub use assessing::Figures;
 pub use assessing::Yearly;
 pub use assessing::assess;
+pub use assessing::assess_years;

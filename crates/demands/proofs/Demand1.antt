@@ -24,9 +24,8 @@ use Rattle.levels.specs.Levels.{capLevel, floorOf, levelsRows, levelsNumber, ca
 use Rattle.levels.proofs.Only.{one-availability, one-target, one-levels}
 use Rattle.revenue.specs.Revenue.{assessedRevenue, revenueRows, revenueNumber, revenueFigure}
 use Rattle.revenue.proofs.Only.{one-revenue}
-use Rattle.balances.specs.declared.assessing.Yearly.{Yearly}
-use Rattle.balances.specs.declared.assessing.Figures.{Figures}
-use Rattle.balances.specs.Assessment.{ARN, CLN, FLN, WPAN, figuresOf, noFigures, assessRows, assessNumber, assessFigures}
+use Rattle.balances.specs.Balance.{periodYears}
+use Rattle.balances.specs.Assessment.{figuresIn, noFigures, assessRows, assessNumber, assessFigures}
 use Rattle.balances.proofs.Only.{one-assess}
 use Rattle.assessment.specs.Period.{yearlyOf, periodRows}
 use Rattle.assessment.proofs.Only.{one-period}
@@ -42,10 +41,6 @@ use Rattle.refiling.specs.Refiled.{refileRows}
 use Rattle.refiling.proofs.Only.{one-refile}
 use Rattle.printout.proofs.Only.{one-print}
 use Rattle.demands.specs.Demand1.{Demand1}
-
--- the figures of five years' amounts
-abbrev figures : Yearly → Figures
-figures y = figuresOf (ARN y 5) (CLN y 5) (FLN y 5) (WPAN y 5)
 
 numbers : (why : Refusal) → (1 ≤ numberOf why) × (numberOf why ≤ 14)
 numbers BrokenLog = omega arith
@@ -131,8 +126,8 @@ demand-1 = record {
     beside-refused (levelsRows book y l) (levelsNumber r) (floorFigure r) (floorOf book y l) (pos 0) (g .0) (g .2) n,
   );
   revenue-refused = λ y r g n. beside-refused (revenueRows y) (revenueNumber r) (revenueFigure r) (assessedRevenue y) (pos 0) (g .0) (g .1) n;
-  assess-refused = λ y r g n. beside-refused (assessRows y) (assessNumber r) (assessFigures r) (figures y) noFigures (g .0) (g .1) n;
-  period-refused = λ book years l r g n. beside-refused (periodRows book years l) (assessNumber r) (assessFigures r) (figures (yearlyOf book years l)) noFigures (g .0) (g .1) n;
+  assess-refused = λ y r g n. beside-refused (assessRows y) (assessNumber r) (assessFigures r) (figuresIn y periodYears) noFigures (g .0) (g .1) n;
+  period-refused = λ book years l r g n. beside-refused (periodRows book years l) (assessNumber r) (assessFigures r) (figuresIn (yearlyOf book years l periodYears) periodYears) noFigures (g .0) (g .1) n;
   gap-refused = λ earlier later r g n. beside-refused (gapRows earlier later) (gapNumber r) (gapFigure r) (natAbs (hundredths (daySum earlier) (daySum later))) 0 (g .0) (g .1) n;
   growth-refused = λ k r g n. beside-refused (growthRows k) (growthNumber r) (growthFigure r) (growthOf k) 0 (g .0) (g .1) n;
   pay-refused = λ amount k r g n. beside-refused (payRows amount k) (payNumber r) (payFigure r) (paidOf amount k) (pos 0) (g .0) (g .1) n;

@@ -33,9 +33,11 @@ use Rattle.levels.specs.Levels.{timesOf, levelOf, aifOf, capLevel, floorLevel, 
 use Rattle.revenue.specs.Revenue.{assessedRevenue, revenueRows, revenueNumber, revenueFigure}
 use Rattle.balances.specs.declared.assessing.Yearly.{Yearly}
 use Rattle.balances.specs.declared.assessing.Assessment.{Assessment}
-use Rattle.balances.specs.Assessment.{ARN, CLN, FLN, WPAN, goodYearly, figuresOf, noFigures, assessRows, assessNumber, assessFigures, AssessGives}
-use Rattle.balances.proofs.Licence.{starts-as, carried-forward, adjustment-is-CFA}
-use Rattle.balances.proofs.NetPresent.{exact-is-sum, each-term, five-uplifts, five-terms, assessed-near}
+use Rattle.balances.specs.Balance.{periodYears}
+use Rattle.balances.specs.Assessment.{assessNumber, assessFigures, AssessGives}
+use Rattle.balances.proofs.Licence.{starts-as, carried-forward}
+use Rattle.balances.proofs.Answered.{answered-figures, answered-near, answered-CFA}
+use Rattle.balances.proofs.NetPresent.{exact-is-sum, each-term, five-uplifts, five-terms}
 use Rattle.assessment.specs.Period.{yearlyOf}
 use Rattle.assessment.proofs.Period.{period-assessed}
 use Rattle.settlement.specs.declared.medians.Period.{Period}
@@ -61,7 +63,7 @@ use Rattle.writing.specs.declared.Written.the-variants.{Length}
 use Rattle.writing.specs.Written.{writtenNumber, lengthFigure, WriteGives}
 use Rattle.writing.proofs.Only.{written-answers}
 use Rattle.refiling.specs.Refiled.{refileRows, RefileGives}
-use Rattle.demands.specs.Demand2.{Carried, NearSums, IsCFA, Demand2}
+use Rattle.demands.specs.Demand2.{Carried, NearSums, Demand2}
 use Rattle.demands.proofs.Lost.{first-is, end-is, year-lost, year-most}
 use Rattle.demands.proofs.Returns.{written-reads-back, read-writes-back}
 
@@ -109,21 +111,14 @@ module _ (book : Book) (y : Year) (log : Log) (r : Levels) (g : LevelsGives book
 
 -- ---- balances and the adjustment
 module _ (y : Yearly) (r : Assessment) (g : AssessGives y r) (n : assessNumber r ≡ 0) where
-  figures-are : assessFigures r ≡ figuresOf (ARN y 5) (CLN y 5) (FLN y 5) (WPAN y 5)
-  figures-are = beside-accepted (assessRows y) (assessNumber r) (assessFigures r) (figuresOf (ARN y 5) (CLN y 5) (FLN y 5) (WPAN y 5)) noFigures (g .0) (g .1) n
-
   figures-carried : Carried y (assessFigures r)
   figures-carried =
-      subst (Carried y) (sym figures-are) (record { revenue = refl; cap = refl; floor = refl; within = refl; held = refl; adjustment = refl })
+      subst (Carried y) (sym (answered-figures y periodYears r g n)) (record { revenue = refl; cap = refl; floor = refl; within = refl; held = refl; adjustment = refl })
 
   figures-near : NearSums y (assessFigures r)
   figures-near =
-      let near = assessed-near y 5 (not-no (goodYearly y 5) (all-clear (assessRows y) (sym (g .0) ∙ n) .0)) in
-      subst (NearSums y) (sym figures-are) (record { revenue = near .revenue; cap = near .cap; floor = near .floor; within = near .within })
-
-  figures-CFA : IsCFA (assessFigures r)
-  figures-CFA =
-      subst IsCFA (sym figures-are) (adjustment-is-CFA (ARN y 5) (CLN y 5) (FLN y 5) (WPAN y 5) (all-clear (assessRows y) (sym (g .0) ∙ n) .1 .1 .0))
+      let near = answered-near y periodYears r g n in
+      subst (NearSums y) (sym (answered-figures y periodYears r g n)) (record { revenue = near .revenue; cap = near .cap; floor = near .floor; within = near .within })
 
 -- ---- settlement
 not-negative : (z : ℤ) → goodHundredths z ≡ true → pos (natAbs z) ≡ z
@@ -237,10 +232,10 @@ demand-2 = record {
   each-term = each-term;
   five-terms = five-terms;
   near = figures-near;
-  adjustment = figures-CFA;
+  adjustment = λ y. answered-CFA y periodYears;
   period = λ book years log r len g n.
-      let a = period-assessed book years log r len g n in
-      (a, figures-CFA (yearlyOf book years log) r a n);
+      let a = period-assessed book years log periodYears r refl (omega (arith, len)) g n in
+      (a, answered-CFA (yearlyOf book years log periodYears) periodYears r a n);
   gap = gap-is;
   no-half = no-half;
   nearest = nearest;

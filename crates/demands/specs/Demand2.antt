@@ -33,7 +33,7 @@ use Rattle.revenue.specs.Revenue.{GCR, MRC, IAT, revenueNumber, revenueFigure, 
 use Rattle.balances.specs.declared.assessing.Yearly.{Yearly}
 use Rattle.balances.specs.declared.assessing.Figures.{Figures}
 use Rattle.balances.specs.declared.assessing.Assessment.{Assessment}
-use Rattle.balances.specs.Balance.{carryOf, balanceAfter}
+use Rattle.balances.specs.Balance.{periodYears, carryOf, balanceAfter}
 use Rattle.balances.specs.Assessment.{heldBetween, CFA, assessNumber, assessFigures, AssessGives}
 use Rattle.balances.specs.NetPresent.{upliftOver, upliftUnder, commonDivisor, UF, netPresent, exactBalance, FiveUplifts, Near}
 use Rattle.assessment.specs.Period.{yearlyOf, PeriodGives}
@@ -121,7 +121,7 @@ pub record Demand2 : Type 0 where
   -- ---- the adjustment, of five rows of amounts and of a period, which is assessed as its yearly amounts are
   pub adjustment : (y : Yearly) (r : Assessment) → AssessGives y r → assessNumber r ≡ 0 → IsCFA (assessFigures r)
   pub period : (book : Book) (years : List Year) (log : Log) (r : Assessment) → length years ≡ 5 → PeriodGives book years log r → assessNumber r ≡ 0
-      → AssessGives (yearlyOf book years log) r × IsCFA (assessFigures r)
+      → AssessGives (yearlyOf book years log periodYears) r × IsCFA (assessFigures r)
   -- ---- settlement and reconciliation
   -- 001, tables 1 and 2: n is that of the two medians, nearer to 200g/1,461 than a half, and no other whole number is as near; g of either sign
   pub gap : (earlier later : Period) (r : Gap) → GapGives earlier later r → gapNumber r ≡ 0 → pos (gapFigure r) ≡ hundredths (daySum earlier) (daySum later)

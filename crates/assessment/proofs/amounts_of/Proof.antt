@@ -4,14 +4,15 @@ use Prim.Native.Nat.{_≤_, _-_}
 use native.Mathlib.Omega.{arith}
 use borrow.Author.Needs.{needs}
 use borrow.Author.Tests.{not-true, not-false}
-use lib.ListN.{length, getD, drop, drop-of-length-le}
+use lib.ListN.{length, getD, take, drop}
 use Rattle.lists.specs.Lists.{all}
 use Rattle.lists.proofs.Tests.{held}
-use Rattle.lists.proofs.Lists.{all-at}
 use Rattle.year.specs.Year.{goodYearRecord}
+use Rattle.balances.specs.Balance.{periodYears}
 use Rattle.balances.specs.declared.assessing.Yearly.{Yearly}
-use Rattle.assessment.specs.Period.{yearFits, yearlyOf, noAmounts, withRow}
-use Rattle.assessment.proofs.Years.{noYear, turned, turned-on, turned-end, fits-on, fits-not, row-says}
+use Rattle.assessment.specs.Period.{yearFits, yearlyOf}
+use Rattle.assessment.specs.Steps.{noAmounts, withRow}
+use Rattle.assessment.proofs.Years.{noYear, first-end, first-at, yearly-on, fits-next, row-says}
 use Rattle.assessment.proofs.amounts_of.Statement.{statement}
 use Rattle.assessment.proofs.amounts_of.Tie as tie
 use Rattle.assessment.proofs.amounts_of.Reads as reads
@@ -20,16 +21,19 @@ use Rattle.assessment.proofs.no_amounts.Reads as no-amounts-reads
 use Rattle.assessment.proofs.row_of.Reads as row-of-reads
 use Rattle.assessment.proofs.with_row.Reads as with-row-reads
 
--- the amounts of the first k years are theirs, and the years to come decide whether all fit
+-- the amounts of the first k years are there, and the years to come decide whether all fit
 abbrev Inv-loop : tie.InvT-loop
-Inv-loop book log years yearly₀ k₀ yearly k =
-    (k ≤ 5) × (yearly ≡ turned book years log k) × (all (yearFits book log) years ≡ all (yearFits book log) (drop k years))
+Inv-loop book log n years yearly₀ k₀ yearly k =
+    (k ≤ n) × (yearly ≡ yearlyOf book years log k) × (all (yearFits book log) (take n years) ≡ all (yearFits book log) (drop k (take n years)))
 
 abbrev μ-loop : tie.MeasureT-loop
-μ-loop book log years yearly₀ k₀ yearly k = 5 - k
+μ-loop book log n years yearly₀ k₀ yearly k = n - k
 
-len : (c : tie.Start Inv-loop μ-loop) → length (c .args .t2) ≡ 5
+len : (c : tie.Start Inv-loop μ-loop) → length (c .args .t2) ≡ periodYears
 len c = search (needs, held)
+
+fits : (c : tie.Start Inv-loop μ-loop) → c .args .n ≤ length (c .args .t2)
+fits c = omega (arith, len c, c .pre .0)
 
 no-amounts-requires : tie.Need-no-amounts-requires Inv-loop μ-loop
 no-amounts-requires c κs = search needs
@@ -47,7 +51,7 @@ row-of-requires : tie.Need-row-of-requires Inv-loop μ-loop
 row-of-requires c κs =
     let a = c .before .before in
     let s = a .before .before in
-    (s .pre .0, s .pre .1, all-at goodYearRecord noYear (s .args .t2) (s .pre .2) (a .loop .k) (omega (arith, len s)))
+    (s .pre .1, s .pre .2, first-at noYear (s .args .t2) (s .args .n) (fits s) goodYearRecord (s .pre .3) (a .loop .k) (omega arith))
 
 no-amounts-requires-2 : tie.Need-no-amounts-requires-2 Inv-loop μ-loop
 no-amounts-requires-2 c κs = search needs
@@ -59,8 +63,8 @@ returns c =
     let s = a .before .before in
     let x = getD (s .args .t2) (a .loop .k) noYear in
     let f = row-says (s .args .book) (s .args .t2) (s .args .log) x (r .row-of .result) (r .row-of .ensures) ∙ not-true _ (c .before .if1 .taken) in
-    let n = a .loop .inv .2 ∙ fits-not (s .args .book) (s .args .t2) (s .args .log) (a .loop .k) noYear (omega (arith, len s)) f in
-    (sym n, c .no-amounts2 .ensures ∙ ap (λ (b : Bool). cond b (yearlyOf (s .args .book) (s .args .t2) (s .args .log)) noAmounts) (sym n))
+    let n = a .loop .inv .2 ∙ fits-next (s .args .book) (s .args .t2) (s .args .log) (s .args .n) (fits s) (a .loop .k) noYear (omega arith) f in
+    (sym n, c .no-amounts2 .ensures ∙ ap (λ (b : Bool). cond b (yearlyOf (s .args .book) (s .args .t2) (s .args .log) (s .args .n)) noAmounts) (sym n))
 
 with-row-requires : tie.Need-with-row-requires Inv-loop μ-loop
 with-row-requires c κs = search needs
@@ -81,23 +85,22 @@ loop-again c =
       omega arith,
       c .with-row .ensures
           ∙ ap (λ (y : Yearly). withRow y (a .loop .k) (r .row-of .result)) (a .loop .inv .1)
-          ∙ ap (withRow (turned (s .args .book) (s .args .t2) (s .args .log) (a .loop .k)) (a .loop .k)) (r .row-of .ensures)
-          ∙ turned-on (s .args .book) (s .args .t2) (s .args .log) (len s) (a .loop .k) noYear (omega arith) f,
-      a .loop .inv .2 ∙ fits-on (s .args .book) (s .args .t2) (s .args .log) (a .loop .k) noYear (omega (arith, len s)) f,
+          ∙ ap (withRow (yearlyOf (s .args .book) (s .args .t2) (s .args .log) (a .loop .k)) (a .loop .k)) (r .row-of .ensures)
+          ∙ yearly-on (s .args .book) (s .args .t2) (s .args .log) (len s) (a .loop .k) noYear (omega arith) f,
+      a .loop .inv .2 ∙ fits-next (s .args .book) (s .args .t2) (s .args .log) (s .args .n) (fits s) (a .loop .k) noYear (omega arith) f,
     )
 
 returns-2 : tie.Need-returns-2 Inv-loop μ-loop
 returns-2 c =
     let a = c .before in
     let s = a .before .before in
-    let e : a .loop .k ≡ 5 = omega arith in
-    let n : all (yearFits (s .args .book) (s .args .log)) (s .args .t2) ≡ true =
-    a .loop .inv .2 ∙ ap (all (yearFits (s .args .book) (s .args .log))) (drop-of-length-le (s .args .t2) {i = a .loop .k} (omega (arith, len s))) in (
+    let e : a .loop .k ≡ s .args .n = omega arith in
+    let n : all (yearFits (s .args .book) (s .args .log)) (take (s .args .n) (s .args .t2)) ≡ true =
+    a .loop .inv .2 ∙ ap (all (yearFits (s .args .book) (s .args .log))) (first-end noYear (s .args .t2) (s .args .n) (fits s) (a .loop .k) (omega arith)) in (
       sym n,
       a .loop .inv .1
-          ∙ ap (turned (s .args .book) (s .args .t2) (s .args .log)) e
-          ∙ turned-end (s .args .book) (s .args .t2) (s .args .log) (len s)
-          ∙ ap (λ (b : Bool). cond b (yearlyOf (s .args .book) (s .args .t2) (s .args .log)) noAmounts) (sym n),
+          ∙ ap (yearlyOf (s .args .book) (s .args .t2) (s .args .log)) e
+          ∙ ap (λ (b : Bool). cond b (yearlyOf (s .args .book) (s .args .t2) (s .args .log) (s .args .n)) noAmounts) (sym n),
     )
 
 pub amounts-of-spec : {M : Type 1} → statement M

@@ -4,14 +4,16 @@ use mathlib.Core.List.{List}
 use Prim.Native.Nat.{_≤_, _+_, _-_}
 use native.Mathlib.Omega.{arith}
 use borrow.Author.Needs.{needs}
-use lib.ListN.{length, getD, drop-of-length-le}
+use lib.ListN.{length, getD, take}
 use Rattle.lists.proofs.Tests.{held}
 use Rattle.lists.specs.Lists.{all}
 use Rattle.year.specs.declared.Year.{Year}
 use Rattle.year.specs.Year.{goodYearRecord}
 use Rattle.year.proofs.Says.{checked-good, checked-bad}
-use Rattle.assessment.specs.Period.{goodFrom, numbersFrom}
-use Rattle.assessment.proofs.Years.{noYear, goodRest, rest-start, rest-bad-year, rest-bad-number, rest-next}
+use Rattle.balances.specs.Balance.{periodYears}
+use Rattle.assessment.specs.Period.{numbersFrom}
+use Rattle.assessment.specs.Steps.{goodFrom}
+use Rattle.assessment.proofs.Years.{noYear, first-end, goodRest, rest-start, rest-bad-year, rest-bad-number, rest-next}
 use Rattle.assessment.proofs.good_from.Statement.{statement}
 use Rattle.assessment.proofs.good_from.Tie as tie
 use Rattle.assessment.proofs.good_from.Reads as reads
@@ -20,16 +22,19 @@ use Rattle.year.proofs.check_year.Reads as check-year-reads
 
 -- the years to come decide
 abbrev Inv-loop : tie.InvT-loop
-Inv-loop number years k₀ k = (k ≤ 5) × (goodFrom number years ≡ goodRest number k years)
+Inv-loop n number years k₀ k = (k ≤ n) × (goodFrom number (take n years) ≡ goodRest number k (take n years))
 
 abbrev μ-loop : tie.MeasureT-loop
-μ-loop number years k₀ k = 5 - k
+μ-loop n number years k₀ k = n - k
 
-len : (c : tie.Start Inv-loop μ-loop) → length (c .args .t1) ≡ 5
+len : (c : tie.Start Inv-loop μ-loop) → length (c .args .t1) ≡ periodYears
 len c = search (needs, held)
 
+fits : (c : tie.Start Inv-loop μ-loop) → c .args .n ≤ length (c .args .t1)
+fits c = omega (arith, len c, c .pre)
+
 loop-holds : tie.Need-loop-holds Inv-loop μ-loop
-loop-holds c = (omega arith, rest-start (c .args .number) (c .args .t1))
+loop-holds c = (omega arith, rest-start (c .args .number) (take (c .args .n) (c .args .t1)))
 
 mul-y : tie.Need-mul-y Inv-loop μ-loop
 mul-y c = search needs
@@ -50,7 +55,7 @@ returns c =
     let s = a .before .args in
     let x = getD (s .t1) (a .loop .k) noYear in
     sym (a .loop .inv .1
-    ∙ rest-bad-year (s .number) (a .loop .k) (s .t1) noYear (omega (arith, len (a .before)))
+    ∙ rest-bad-year (s .number) (a .loop .k) (s .n) (s .t1) noYear (fits (a .before)) (omega arith)
     (checked-bad x (y .check-year .result) (y .check-year .ensures) (c .enum-told .given .0 .0) (c .enum-told .given .1)))
 
 enum-told-2 : tie.Need-enum-told-2 Inv-loop μ-loop
@@ -70,7 +75,7 @@ returns-2 c =
     let s = a .before .args in
     let x = getD (s .t1) (a .loop .k) noYear in
     sym (a .loop .inv .1
-    ∙ rest-bad-number (s .number) (a .loop .k) (s .t1) noYear (omega (arith, len (a .before)))
+    ∙ rest-bad-number (s .number) (a .loop .k) (s .n) (s .t1) noYear (fits (a .before)) (omega arith)
     (checked-good x (y .check-year .result) (y .check-year .ensures) (t .enum-told2 .given .1)) (c .if1 .taken))
 
 add-k : tie.Need-add-k Inv-loop μ-loop
@@ -88,7 +93,7 @@ loop-again c =
     let x = getD (s .t1) (a .loop .k) noYear in (
       omega arith,
       a .loop .inv .1
-          ∙ rest-next (s .number) (a .loop .k) (s .t1) noYear (omega (arith, len (a .before)))
+          ∙ rest-next (s .number) (a .loop .k) (s .n) (s .t1) noYear (fits (a .before)) (omega arith)
           (checked-good x (y .check-year .result) (y .check-year .ensures) (t .enum-told2 .given .1)) (c .if1 .left),
     )
 
@@ -96,7 +101,7 @@ returns-3 : tie.Need-returns-3 Inv-loop μ-loop
 returns-3 c =
     let a = c .before in
     let s = a .before .args in
-    let z = drop-of-length-le (s .t1) {i = a .loop .k} (omega (arith, len (a .before))) in
+    let z = first-end noYear (s .t1) (s .n) (fits (a .before)) (a .loop .k) (omega arith) in
     sym (a .loop .inv .1 ∙ ap (λ (l : List Year). all goodYearRecord l && numbersFrom (s .number + a .loop .k) l) z)
 
 pub good-from-spec : {M : Type 1} → statement M

@@ -2,6 +2,7 @@ use mathlib.Core.Path.{_≡_, sym, _∙_}
 use native.Mathlib.Omega.{arith}
 use lib.ListN.{length}
 use Rattle.lists.proofs.Tests.{held}
+use Rattle.balances.specs.Balance.{periodYears}
 use Rattle.assessment.proofs.Years.{noYear, period-other, period-start}
 use borrow.Author.Needs.{needs}
 use Rattle.assessment.proofs.good_years.Statement.{statement}
@@ -10,16 +11,22 @@ use Rattle.assessment.proofs.good_years.Reads as reads
 use Rattle.assessment.proofs.good_years.Lts as lts
 use Rattle.assessment.proofs.good_from.Reads as good-from-reads
 
-len : (c : tie.Start) → length (c .args .t1) ≡ 5
+len : (c : tie.Start) → length (c .args .t1) ≡ periodYears
 len c = search (needs, held)
 
 array-copy-out-first : tie.Need-array-copy-out-first
 array-copy-out-first c = search needs
 
+cast-if1 : tie.Need-cast-if1
+cast-if1 c = search needs
+
+rem-if1 : tie.Need-rem-if1
+rem-if1 c = search needs
+
 returns : tie.Need-returns
 returns c =
     let s = c .before .before in
-    sym (period-other (s .args .t1) noYear (omega (arith, len s)) (c .if1 .taken))
+    sym (period-other (s .args .t1) (s .args .n) noYear (s .pre .0) (omega (arith, len s)) (c .if1 .taken))
 
 good-from-requires : tie.Need-good-from-requires
 good-from-requires c κs = search needs
@@ -27,7 +34,7 @@ good-from-requires c κs = search needs
 returns-2 : tie.Need-returns-2
 returns-2 c =
     let s = c .before .before .before in
-    c .good-from .ensures ∙ sym (period-start (s .args .t1) noYear (omega (arith, len s)) (c .before .if1 .left))
+    c .good-from .ensures ∙ sym (period-start (s .args .t1) (s .args .n) noYear (s .pre .0) (omega (arith, len s)) (c .before .if1 .left))
 
 pub good-years-spec : {M : Type 1} → statement M
-good-years-spec = tie.close (tie.spec array-copy-out-first returns good-from-requires returns-2)
+good-years-spec = tie.close (tie.spec array-copy-out-first cast-if1 rem-if1 returns good-from-requires returns-2)

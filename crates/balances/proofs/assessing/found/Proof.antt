@@ -8,7 +8,8 @@ use mir.Syntax.{w64}
 use mir.Val.{toZ, ofZ}
 use Rattle.money.proofs.Pounds.{wire}
 use Rattle.balances.specs.Balance.{mostBalance}
-use Rattle.balances.specs.Assessment.{valueOf, oneOver, figuresOf}
+use Rattle.balances.specs.Assessment.{figuresOf}
+use Rattle.balances.specs.Steps.{valueOf, oneOver}
 use Rattle.balances.proofs.Answers.{same-below, same-figures}
 use Rattle.balances.proofs.assessing.found.Statement.{statement}
 use Rattle.balances.proofs.assessing.found.Tie as tie

@@ -1,6 +1,6 @@
 -- The measure is the years left.
 use mathlib.Core.Path.{_≡_, sym, ap, _∙_}
-use Prim.Native.Nat.{ℕ, _+_, _<_}
+use Prim.Native.Nat.{ℕ, _+_, _-_, _<_}
 use native.Mathlib.Omega.{arith}
 use borrow.Author.Tests.{leb-true}
 use borrow.Fn.Kinds.{In}
@@ -13,7 +13,7 @@ use Rattle.money.proofs.Pounds.{wire, abs-add, held-small}
 use Rattle.money.proofs.plus.Reads as plus-reads
 use Rattle.money.proofs.within.Reads as within-reads
 use Rattle.balances.specs.declared.carrying.Balance.the-variants.{Is}
-use Rattle.balances.specs.Balance.{balanceAfter, carryOf, mostBalance}
+use Rattle.balances.specs.Balance.{periodYears, balanceAfter, carryOf, mostBalance}
 use Rattle.balances.proofs.Ranges.{index-good, amount-small}
 use Rattle.balances.proofs.Years.{after-next, carried-done, carried-on, carried-over}
 use Rattle.balances.proofs.carrying.brought_on.Reads as brought-on-reads
@@ -51,21 +51,26 @@ carried-returns t c =
     rw (toZ-ofZ (s .fits .balance)) (ap Is (s .pre .1 .3) ∙ carried-done (s .args .index) (s .args .t2) (s .args .at) (s .args .left) (c .if1 .taken))
 
 -- ---- the next year
-room : (at left : ℕ) → (left ≡ 0 → ⊥) → at + left < 5 → at + 1 < 5
-room at left f h = omega arith
+-- one is left, and stands in the room
+room : (at left : ℕ) → (left ≡ 0 → ⊥) → at + left < periodYears → (at + 1 < at + left + 1) × (at + 1 < periodYears)
+room at left f h = (omega arith, omega arith)
 
-next-year : (t : ℕ) (c : carried-lts.Else1 (told t) (carried-at t) carried.Post) → c .before .args .at + 1 < 5
+next-year : (t : ℕ) (c : carried-lts.Else1 (told t) (carried-at t) carried.Post) → (c .before .args .at + 1 < c .before .args .at + c .before .args .left + 1) × (c .before .args .at + 1 < periodYears)
 next-year t c = room (c .before .args .at) (c .before .args .left) (c .if1 .left) (c .before .pre .1 .0)
+
+-- the years are as many from the next one on
+same-years : (at left : ℕ) → (left ≡ 0 → ⊥) → at + 1 + (left - 1) + 1 ≡ at + left + 1
+same-years at left f = omega arith
 
 carried-brought-on-requires : (t : ℕ) → carried-lts.Need-brought-on-requires (told t) (carried-at t) carried.Post
 carried-brought-on-requires t c κs =
     let s = c .before in
     let a = s .args in
     let h = next-year t c in (
-      h,
+      h .1,
       rw (toZ-ofZ (s .fits .balance)) (s .pre .1 .2),
-      index-good (a .index) (a .t2) 5 (s .pre .1 .1) (a .at) (omega arith),
-      index-good (a .index) (a .t2) 5 (s .pre .1 .1) (a .at + 1) h,
+      index-good (a .index) (a .t2) (a .at + a .left + 1) (s .pre .1 .1) (a .at) (omega arith),
+      index-good (a .index) (a .t2) (a .at + a .left + 1) (s .pre .1 .1) (a .at + 1) (h .0),
     )
 
 carried-add-amount : (t : ℕ) → carried-lts.Need-add-amount (told t) (carried-at t) carried.Post
@@ -97,7 +102,7 @@ next-is t c =
     let b = c .before .before in
     let a = b .before .before .args in
     let x = getD (a .t2) (a .at + 1) (pos 0) in
-    let small = amount-small (a .index) (a .t2) 5 (b .before .before .pre .1 .1) (a .at + 1) (next-year t (b .before)) in
+    let small = amount-small (a .index) (a .t2) (a .at + a .left + 1) (b .before .before .pre .1 .1) (a .at + 1) (next-year t (b .before) .0) in
     (rw (wire (b .brought-on .result) (b .brought-on .ok), wire x (c .before .amount .given)) at (c .plus .ensures))
     ∙ held-small (b .brought-on .result +ℤ x) (omega (arith, abs-add (b .brought-on .result) x, b .brought-on .ensures .1))
     ∙ ap (λ (z : ℤ). z +ℤ x) (brought-is t b)
@@ -122,7 +127,7 @@ carried-carried-requires t c κs =
       omega arith,
       (
         omega arith,
-        s .pre .1 .1,
+        rw (same-years (s .args .at) (s .args .left) (n .before .before .before .if1 .left)) (s .pre .1 .1),
         rw (wire (n .plus .result) (n .plus .ok), next-is t n) (leb-true _ _ (test-is t (c .before) ∙ c .if2 .taken)),
         wire (n .plus .result) (n .plus .ok) ∙ next-is t n,
       ),
