@@ -10,3 +10,4 @@ pub mod Positions
 pub mod Lengths
 pub mod Buffers
 pub mod Leaves
+pub mod Message

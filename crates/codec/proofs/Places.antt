@@ -63,6 +63,10 @@ pub record Placed {A : Type 0} (c : Codec A) : Type 0 where
   -- where it is stuck, what was read begins something that may be written
   pub begun : (bs : List ℕ) (n : ℕ) (rest : List ℕ) → Bytes bs → c .read bs ≡ stuck n rest → Begun c bs rest
 
+-- it refuses by one number alone
+pub record Numbered {A : Type 0} (c : Codec A) (k : ℕ) : Type 0 where
+  pub only : (bs : List ℕ) (why : ℕ) (rest : List ℕ) → c .read bs ≡ stuck why rest → why ≡ k
+
 -- ---- whole fields
 no-field : (bs : List ℕ) → Whole bs bs
 unfolding joined
@@ -149,6 +153,13 @@ module _ {A : Type 0} (f : Item A) (l : ItemLaws f) where
         begun = λ bs n rest b h. need-begun a k bs (f .look bs) n rest h;
       }
 
+  need-numbered : (bs : List ℕ) (o : Option A) (why : ℕ) (rest : List ℕ) → need f bs o ≡ stuck why rest → why ≡ malformed
+  need-numbered bs none why rest h = cc
+  need-numbered bs (some x) why rest h = cc
+
+  pub one-numbered : Numbered (one f) malformed
+  one-numbered = record { only = λ bs why rest h. need-numbered bs (f .look bs) why rest h }
+
   module _ (d : A) where
     else-fields : (bs : List ℕ) (o : Option A) → f .look bs ≡ o → Whole bs (restOf (orElse f d bs o))
     else-fields bs none e = no-field bs
@@ -172,6 +183,9 @@ module _ {A : Type 0} (f : Item A) (l : ItemLaws f) where
           any-ok = rw k;
           begun = λ bs n rest b h. absurd (else-got bs (f .look bs) n rest h);
         }
+
+    pub opt-numbered : (is : A → Bool) {k : ℕ} → Numbered (opt f d is) k
+    opt-numbered is = record { only = λ bs why rest h. absurd (else-got bs (f .look bs) why rest h) }
 
 -- ---- many fields
 -- up to n more, after a was found
@@ -228,6 +242,9 @@ module _ {A : Type 0} (f : List A → Item A) (l : (before : List A) → ItemLaw
         any-ok = rw (le-leb 0 n (omega arith));
         begun = λ bs k rest b h. absurd (scan-got n [] bs k rest h);
       }
+
+  pub many-numbered : (n : ℕ) {k : ℕ} → Numbered (many f n) k
+  many-numbered n = record { only = λ bs why rest h. absurd (scan-got n [] bs why rest h) }
 
 -- ---- one after the other
 rest-pair : {A B : Type 0} (a : A) (x : Res B) → restOf (pairUp a x) ≡ restOf x
@@ -306,3 +323,13 @@ module _ {A B : Type 0} (c : Codec A) (d : A → Codec B) (lo hi : ℕ) (lc : La
         any-ok = and-made (pc .any-ok) (pd (pc .any) .any-ok);
         begun = λ bs n rest b h. both-begun bs b (c .read bs) refl n rest h;
       }
+
+module _ {A B : Type 0} (c : Codec A) (d : A → Codec B) {k : ℕ} (nc : Numbered c k) (nd : (a : A) → Numbered (d a) k) where
+  then-numbered : (bs : List ℕ) (x : Res A) → c .read bs ≡ x → (why : ℕ) (rest : List ℕ) → andThen d x ≡ stuck why rest → why ≡ k
+  then-numbered bs (stuck n r) e why rest h =
+      let q = nc .only bs n r e in
+      cc
+  then-numbered bs (got a m) e why rest h = nd a .only m why rest (stuck-pair a (d a .read m) why rest h)
+
+  pub both-numbered : Numbered (both c d) k
+  both-numbered = record { only = λ bs why rest h. then-numbered bs (c .read bs) refl why rest h }

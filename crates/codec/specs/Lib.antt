@@ -4,3 +4,4 @@ pub mod Fields
 pub mod Format
 pub mod Buffers
 pub mod Leaves
+pub mod Message

@@ -61,11 +61,11 @@ numbers NoRoom = omega arith
 -- ---- a reading, by what it found
 refused-year : (x : Reading) (n : ℕ) → n ≡ cond (isRefused x) 13 0 → (n ≡ 0 → ⊥) → yearIn x ≡ freshYear
 refused-year (whole y) n e z = absurd (z e)
-refused-year (refused place) n e z = refl
+refused-year (refused why place) n e z = refl
 
 accepted-place : (x : Reading) (n : ℕ) → n ≡ cond (isRefused x) 13 0 → n ≡ 0 → placeIn x ≡ 0
 accepted-place (whole y) n e z = refl
-accepted-place (refused place) n e z = absurd (not-suc-le-zero {n = 0} (omega arith))
+accepted-place (refused why place) n e z = absurd (not-suc-le-zero {n = 0} (omega arith))
 
 pub demand-1 : Demand1
 demand-1 = record {

@@ -203,14 +203,11 @@ flat-is y out r o g n =
 
 module _ (bs : List ℕ) (t : Return) (g : ReturnGives bs t) where
   -- a refused reading is one at the place that is given
-  refused-at : (x : Reading) → readingOf bs ≡ x → (answerNumber (t .answer) ≡ 0 → ⊥) → readingOf bs ≡ refused (t .place)
-  refused-at (whole y) e n = absurd (n (g .0 ∙ ap (λ (x : Reading). cond (isRefused x) 13 0) e))
-  refused-at (refused place) e n = e ∙ ap refused (sym (g .1 ∙ ap placeIn e))
-
-  stands-there : Bytes bs → (answerNumber (t .answer) ≡ 0 → ⊥) → length bs ≤ mostBytes → Stands bs (t .place) × ((other : ℕ) → Stands bs other → other ≡ t .place)
-  stands-there b n h =
-      let e = refused-at (readingOf bs) refl n in
-      (stands bs (t .place) b h e, stands-alone bs b h (t .place) e)
+  stands-there : (x : Reading) → readingOf bs ≡ x → Bytes bs → (answerNumber (t .answer) ≡ 0 → ⊥) → length bs ≤ mostBytes → Stands bs (t .place) × ((other : ℕ) → Stands bs other → other ≡ t .place)
+  stands-there (whole y) e b n h = absurd (n (g .0 ∙ ap (λ (x : Reading). cond (isRefused x) 13 0) e))
+  stands-there (refused why place) e b n h =
+      let f : readingOf bs ≡ refused why (t .place) = e ∙ ap (refused why) (sym (g .1 ∙ ap placeIn e)) in
+      (stands bs why (t .place) b h f, stands-alone bs b h why (t .place) f)
 
   longer-is : mostBytes < length bs → (answerNumber (t .answer) ≡ 13) × (t .place ≡ mostBytes)
   longer-is h =
@@ -253,7 +250,7 @@ demand-2 = record {
   whole-fields = flat-whole;
   flat = flat-is;
   tags = λ bs b t g n. tags-ascend bs b (sym (g .0) ∙ n);
-  place = λ bs b t g n h. stands-there bs t g b n h;
+  place = λ bs b t g n h. stands-there bs t g (readingOf bs) refl b n h;
   one-place = one-place;
   longer = longer-is;
 }

@@ -1,9 +1,9 @@
 -- What reading and writing a return give: document 01, "The yearly return" and "Numbers a call can give instead".
-use mathlib.Core.Bool.{Bool, true, false, cond, not, _&&_}
+use mathlib.Core.Bool.{Bool, cond, not, _&&_}
 use mathlib.Core.List.{List, [], _∷_, _++_}
 use Prim.Native.Nat.{ℕ, _-_}
-use lib.Dec.{leb, ltb, eqb}
-use lib.ListN.{length, take, drop, replicate}
+use lib.Dec.{ltb, eqb}
+use lib.ListN.{length, take, replicate}
 use Rattle.lists.specs.Lists.{all}
 use Rattle.refusals.specs.Refusals.{Rows, accepted}
 use Rattle.refusals.specs.declared.Refusal.the-variants.{BrokenLog, BadYear, Malformed, NoRoom}
@@ -12,10 +12,12 @@ use Rattle.outage.specs.Log.{lastRegimeEnd, validLog, live, holding}
 use Rattle.year.specs.declared.Line.{Line}
 use Rattle.year.specs.declared.Year.{Year}
 use Rattle.year.specs.Year.{freshYear, goodYearRecord, lineSlots, zeroLine}
-use Rattle.codec.specs.Format.{Res, got, stuck}
+use Rattle.codec.specs.Message as Message
+use Rattle.codec.specs.Message.{lengthIn, bufferIn}
 use Rattle.filing.specs.declared.Return.{Return}
 use Rattle.filing.specs.Form.{Parts, form, startsIn}
 pub use Rattle.filing.specs.Form.{leftOut, isLeftOut}
+pub use Rattle.codec.specs.Message.{whole, refused, isRefused, placeIn}
 
 -- ---- a year and the parts of its return
 -- "Line slots past the count are zero."
@@ -69,33 +71,18 @@ partsOf y = (
 abbrev pub mostBytes : ℕ
 mostBytes = 8192
 
--- a year, or the place of a refusal
-pub data Reading : Type 0 where
-  whole : Year → Reading
-  refused : ℕ → Reading
+-- a year, or a refusal's number and place
+abbrev pub Reading : Type 0
+Reading = Message.Reading Year
 
--- "Refused at the first byte of the first field" that cannot be taken where it stands, or at the end
-abbrev pub finish : ℕ → Res Parts → Reading
-finish n (got p []) = whole (yearOf p)
-finish n (got p (x ∷ rest)) = refused (n - length (x ∷ rest))
-finish n (stuck why rest) = refused (n - length rest)
-
--- "A longer return is refused at place 8,192 before reading."
-unfoldable pub readingOf : List ℕ → Reading
-readingOf bs = cond (leb (length bs) mostBytes) (finish (length bs) (form .read bs)) (refused mostBytes)
-
-abbrev pub isRefused : Reading → Bool
-isRefused (whole y) = false
-isRefused (refused place) = true
-
-abbrev pub placeIn : Reading → ℕ
-placeIn (whole y) = 0
-placeIn (refused place) = place
+-- "Refused at the first byte of the first field" that cannot be taken where it stands, or at the end. "A longer return is
+-- refused at place 8,192 before reading."
+abbrev pub readingOf : List ℕ → Reading
+readingOf = Message.reading form yearOf mostBytes
 
 -- "a refused reading gives a fresh year"
 abbrev pub yearIn : Reading → Year
-yearIn (whole y) = y
-yearIn (refused place) = freshYear
+yearIn = Message.valueIn freshYear
 
 abbrev pub readRows : List ℕ → Rows
 readRows bs = (Malformed, isRefused (readingOf bs)) ∷ []
@@ -128,8 +115,8 @@ writeRows y room =
     (BrokenLog, not (validLog (y .log))) ∷ (BadYear, not (fileable y)) ∷ (NoRoom, ltb room (length (returnOf y))) ∷ []
 
 abbrev pub writtenLength : Year → ℕ → ℕ
-writtenLength y room = cond (accepted (writeRows y room)) (length (returnOf y)) 0
+writtenLength y room = lengthIn (accepted (writeRows y room)) (returnOf y)
 
 -- "Bytes past a written return are untouched", and all of them beside a refusal
 abbrev pub writtenBuffer : Year → List ℕ → List ℕ
-writtenBuffer y out = cond (accepted (writeRows y (length out))) (returnOf y ++ drop (length (returnOf y)) out) out
+writtenBuffer y out = bufferIn (accepted (writeRows y (length out))) (returnOf y) out

@@ -22,4 +22,4 @@ one-print bs b = by (readingOf bs) refl
 
     by : (r : Reading) → readingOf bs ≡ r → One (PrintGives bs)
     by (whole y) e = given (pushed (textOf []) (printedYear (readYear bs))) (year-given bs b (rw e refl) refl)
-    by (refused place) e = given (pushed (textOf []) (refusalOf 13)) (refused-given bs Malformed (rw e refl) refl)
+    by (refused why place) e = given (pushed (textOf []) (refusalOf 13)) (refused-given bs Malformed (rw e refl) refl)

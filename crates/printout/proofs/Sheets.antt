@@ -140,7 +140,7 @@ fitted bs e h = (e, omega (arith, ap (λ (x : Text). x .length) e))
 module _ (bs : List ℕ) where
   malformed-small : (r : Reading) → cond (isRefused r) 13 0 < 100
   malformed-small (whole y) = omega arith
-  malformed-small (refused place) = omega arith
+  malformed-small (refused why place) = omega arith
 
   pub refused-given : {t : Text} (why : Refusal) → numberOf why ≡ lowest (readRows bs) → t ≡ pushed (textOf []) (refusalOf (numberOf why)) → (t ≡ textOf (printed bs)) × (t .length ≤ room)
   unfolding printed

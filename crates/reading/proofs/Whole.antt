@@ -6,7 +6,7 @@ use mathlib.Core.List.{List, [], _∷_}
 use mathlib.Core.Option.{Option, some, none}
 use Prim.Native.Nat.{ℕ, suc, _+_, _-_, _<_, _≤_}
 use native.Mathlib.Omega.{arith}
-use borrow.Author.Tests.{le-leb, lt-leb}
+use borrow.Author.Tests.{le-leb}
 use lib.Dec.{eqb}
 use lib.ListN.{length, drop, getD, length-drop}
 use lib.Seq.{drop-cons, drop-length}
@@ -16,7 +16,9 @@ use Rattle.refusals.specs.declared.Answer.the-variants.{Done}
 use Rattle.year.specs.declared.Year.{Year}
 use Rattle.filing.specs.declared.Return.{Return}
 use Rattle.filing.specs.Form.{yearValue, pppiValue, rateValue, aicValue, Parts, form, BodyParts, body}
-use Rattle.filing.specs.Return.{mostBytes, yearOf, whole, refused, finish, readingOf, refusedAt}
+use Rattle.filing.specs.Return.{mostBytes, yearOf, whole, refused, readingOf, refusedAt}
+use Rattle.codec.specs.Message.{finish}
+use Rattle.codec.proofs.Message.{short-reading, longer}
 use Rattle.reading.specs.declared.Head.{Head}
 use Rattle.reading.specs.declared.Body.{Body}
 use Rattle.reading.specs.declared.Required.the-variants as R
@@ -209,6 +211,11 @@ withRate number = both rate (λ r. withAic number)
 abbrev withPppi : ℕ → Codec (ℕ × (ℕ × (ℕ × BodyParts)))
 withPppi number = both pppi (λ p. withRate number)
 
+-- the reading is refused at a place
+pub record Refuses (s : List ℕ) (place : ℕ) : Type 0 where
+  pub why : ℕ
+  pub is : readingOf s ≡ refused why place
+
 -- the year as the code puts it together
 abbrev made : Head → Body → Year
 made h b = record {
@@ -226,14 +233,12 @@ made h b = record {
 }
 
 module _ (s : List ℕ) where
-  pub too-long : mostBytes < length s → readingOf s ≡ refused mostBytes
-  unfolding readingOf
-  too-long h = ap (λ (b : Bool). cond b (finish (length s) (form .read s)) (refused mostBytes)) (lt-leb (length s) mostBytes h)
+  pub too-long : mostBytes < length s → Refuses s mostBytes
+  too-long h = record { why = malformed; is = longer form yearOf mostBytes s h }
 
   module _ (few : length s ≤ mostBytes) where
-    ends : readingOf s ≡ finish (length s) (form .read s)
-    unfolding readingOf
-    ends = ap (λ (b : Bool). cond b (finish (length s) (form .read s)) (refused mostBytes)) (le-leb (length s) mostBytes few)
+    ends : readingOf s ≡ finish yearOf (length s) (form .read s)
+    ends = short-reading form yearOf mostBytes s few
 
     stuck-form : (why : ℕ) (rest : List ℕ) → head .read s ≡ stuck why rest → form .read s ≡ stuck why rest
     unfolding form
@@ -243,14 +248,14 @@ module _ (s : List ℕ) where
         (λ p m. stuck-longer rate (λ r. aic) (λ r. withAic n) m why rest (λ r m. first-stuck aic (λ a. body n)))) e
 
     -- a required field is not there
-    pub not-there : (place : ℕ) → R.Not place ≡ headFound (length s) (head .read s) → readingOf s ≡ refused place
+    pub not-there : (place : ℕ) → R.Not place ≡ headFound (length s) (head .read s) → Refuses s place
     not-there place e = by (head .read s) refl e
       where
-        by : (r : Res HeadParts) → head .read s ≡ r → R.Not place ≡ headFound (length s) r → readingOf s ≡ refused place
+        by : (r : Res HeadParts) → head .read s ≡ r → R.Not place ≡ headFound (length s) r → Refuses s place
         by (got p rest) f g = absurd (let z : _≡_ {A = ℕ} 0 1 = cc in omega arith)
         by (stuck w rest) f g =
             let n : length s - length rest ≡ place = cc in
-            ends ∙ ap (finish (length s)) (stuck-form w rest f) ∙ ap refused n
+            record { why = w; is = ends ∙ ap (finish yearOf (length s)) (stuck-form w rest f) ∙ ap (refused w) n }
 
     module _ {h : Head} (hr : HeadRead s h) {b : Body} (br : BodyRead (h .number) s 23 b) where
       abbrev parts : Parts
@@ -265,11 +270,11 @@ module _ (s : List ℕ) where
           (both-read rate (λ r. withAic (h .number)) (k .rate-is) (both-read aic (λ a. body (h .number)) (k .aic-is) (br .at))))
 
       -- bytes are left over
-      pub left-over : b .next < length s → readingOf s ≡ refused (b .next)
+      pub left-over : b .next < length s → Refuses s (b .next)
       left-over k =
           let c : drop (b .next) s ≡ getD s (b .next) 0 ∷ drop (suc (b .next)) s = drop-cons s (b .next) 0 k in
           let n : length s - suc (length (drop (suc (b .next)) s)) ≡ b .next = omega (arith, length-drop (suc (b .next)) s) in
-          ends ∙ ap (finish (length s)) (all-read .is ∙ ap (got parts) c) ∙ ap refused n
+          record { why = malformed; is = ends ∙ ap (finish yearOf (length s)) (all-read .is ∙ ap (got parts) c) ∙ ap (refused malformed) n }
 
       year-read : made h b ≡ yearOf parts
       year-read = rw (br .lined, br .counted, br .held, marked (b .exceptional))
@@ -283,11 +288,11 @@ module _ (s : List ℕ) where
       none-left k =
           let n : b .next ≡ length s = omega (arith, br .at .within) in
           let c : drop (b .next) s ≡ [] = ap (λ (x : ℕ). drop x s) n ∙ drop-length s in
-          ends ∙ ap (finish (length s)) (all-read .is ∙ ap (got parts) c) ∙ ap whole (sym year-read)
+          ends ∙ ap (finish yearOf (length s)) (all-read .is ∙ ap (got parts) c) ∙ ap whole (sym year-read)
 
   -- ---- what the call ensures
-  pub gives-refused : (place : ℕ) (r : Return) → r ≡ refusedAt place → readingOf s ≡ refused place → ReturnGives s r
-  gives-refused place r e f = rw (e, f) (refl, refl, refl)
+  pub gives-refused : (place : ℕ) (r : Return) → r ≡ refusedAt place → Refuses s place → ReturnGives s r
+  gives-refused place r e f = rw (e, f .is) (refl, refl, refl)
 
   pub gives-whole : (y : Year) → readingOf s ≡ whole y → ReturnGives s (record { answer = Done; place = 0; year = y })
   gives-whole y f = rw f (refl, refl, refl)

@@ -1,12 +1,12 @@
 -- "A return that is read and written again gives its own bytes": demand 2, as a call.
-use mathlib.Core.Bool.{cond}
-use mathlib.Core.List.{List, [], _∷_, _++_}
+use mathlib.Core.List.{List, [], _∷_}
 use mathlib.Core.Path.{_≡_}
 use Prim.Native.Nat.{ℕ}
 use lib.Dec.{ltb}
-use lib.ListN.{length, drop}
+use lib.ListN.{length}
 use Rattle.refusals.specs.Refusals.{Rows, accepted, lowest}
 use Rattle.refusals.specs.declared.Refusal.the-variants.{Malformed, NoRoom}
+use Rattle.codec.specs.Message.{lengthIn, bufferIn}
 use Rattle.filing.specs.Return.{readingOf, isRefused}
 use Rattle.writing.specs.declared.Written.{Written}
 use Rattle.writing.specs.Written.{writtenNumber, lengthFigure}
@@ -16,11 +16,11 @@ abbrev pub refileRows : List ℕ → ℕ → Rows
 refileRows bs room = (Malformed, isRefused (readingOf bs)) ∷ (NoRoom, ltb room (length bs)) ∷ []
 
 abbrev pub refiledLength : List ℕ → ℕ → ℕ
-refiledLength bs room = cond (accepted (refileRows bs room)) (length bs) 0
+refiledLength bs room = lengthIn (accepted (refileRows bs room)) bs
 
 -- the same bytes, and the rest of the buffer as it was; beside a refusal all of it
 abbrev pub refiledBuffer : List ℕ → List ℕ → List ℕ
-refiledBuffer bs out = cond (accepted (refileRows bs (length out))) (bs ++ drop (length bs) out) out
+refiledBuffer bs out = bufferIn (accepted (refileRows bs (length out))) bs out
 
 -- what `refile` promises of its result, and of the buffer after it
 abbrev pub RefileGives : List ℕ → List ℕ → Written → List ℕ → Type 0

@@ -12,11 +12,11 @@ use Rattle.outage.specs.declared.Entry.{Entry}
 use Rattle.outage.specs.Log.{slots}
 use Rattle.year.specs.declared.Line.{Line}
 use Rattle.year.specs.Year.{goodLine, lineSlots}
-use Rattle.codec.specs.Format.{num, int, pair, tagged}
+use Rattle.codec.specs.Format.{num, int, pair, tagged, malformed}
 use Rattle.codec.proofs.Values.{ValueLaws, num-laws, int-laws, pair-laws, mapped-laws, such-laws}
 use Rattle.codec.proofs.Items.{ItemLaws, tagged-laws}
 use Rattle.codec.proofs.Formats.{Lawful, one-lawful, opt-lawful, many-lawful, both-lawful}
-use Rattle.codec.proofs.Places.{Placed, one-placed, opt-placed, many-placed, both-placed}
+use Rattle.codec.proofs.Places.{Placed, Numbered, one-placed, opt-placed, many-placed, both-placed, one-numbered, opt-numbered, many-numbered, both-numbered}
 use Rattle.filing.specs.Form.{yearValue, pppiValue, rateValue, aicValue, leftOut, isLeftOut, factorsValue, toLine, fromLine, lineLayout, lineValue, toEntry, fromEntry, entryLayout, mayFollow, entryValue, markValue, isNone, withinValue, lineItem, entryItem, factors, mark, within, form}
 
 -- ---- values
@@ -127,3 +127,17 @@ form-placed =
     both-placed _ _ 7 8 (many-lawful (entryItem number) 7 (entry-item number) (λ before. refl) slots) (many-placed (entryItem number) (entry-item number) slots) (λ o.
     both-placed _ _ 8 9 mark-lawful (opt-placed (tagged 8 markValue) mark-item 0 (λ n. eqb n 0) refl) (λ m.
     opt-placed (tagged 9 withinValue) within-item (pos 0) isNone refl))))))))
+
+-- it gives 13 alone
+pub form-numbered : Numbered form malformed
+unfolding form
+form-numbered =
+    both-numbered _ _ (one-numbered (tagged 1 yearValue) year-item) (λ number.
+    both-numbered _ _ (one-numbered (tagged 2 pppiValue) pppi-item) (λ pppi.
+    both-numbered _ _ (one-numbered (tagged 3 rateValue) rate-item) (λ rate.
+    both-numbered _ _ (one-numbered (tagged 4 aicValue) aic-item) (λ aic.
+    both-numbered _ _ (opt-numbered (tagged 5 (factorsValue number)) (factors-item number) (leftOut number) (isLeftOut number)) (λ f.
+    both-numbered _ _ (many-numbered lineItem line-item lineSlots) (λ l.
+    both-numbered _ _ (many-numbered (entryItem number) (entry-item number) slots) (λ o.
+    both-numbered _ _ (opt-numbered (tagged 8 markValue) mark-item 0 (λ n. eqb n 0)) (λ m.
+    opt-numbered (tagged 9 withinValue) within-item (pos 0) isNone))))))))

@@ -1,24 +1,27 @@
 -- Demand 2: "A return that is read and written again gives its own bytes, and a valid year that is written reads back as
 -- itself." And 13 is given exactly where no valid year writes these bytes. Assumes nothing.
-use mathlib.Core.Path.{_≡_, refl, sym, ap, _∙_}
-use mathlib.Core.Bool.{Bool, true, false, cond}
-use mathlib.Core.List.{List, [], _∷_, append-nil}
+use mathlib.Core.Path.{_≡_, refl, ap, _∙_}
+use mathlib.Core.Bool.{true, cond}
+use mathlib.Core.List.{List, []}
 use Prim.Native.Nat.{ℕ, _-_, _*_, _≤_}
 use native.Mathlib.Nat.{not-suc-le-zero}
 use native.Mathlib.Omega.{arith}
-use borrow.Author.Tests.{le-leb}
-use lib.Dec.{leb, eqb}
-use lib.ListN.{length, length-append}
+use lib.Dec.{eqb}
+use lib.ListN.{length, replicate, length-append, length-replicate}
 use Rattle.refusals.specs.Refusals.{lowest}
-use Rattle.outage.specs.Log.{slots}
+use Rattle.outage.specs.Log.{slots, lastRegimeEnd}
+use Rattle.outage.proofs.Holding.{holding-slots}
 use Rattle.year.specs.declared.Year.{Year}
-use Rattle.year.specs.Year.{lineSlots}
+use Rattle.year.specs.Year.{lineSlots, zeroLine}
 use Rattle.codec.specs.Numbers.{Bytes}
-use Rattle.codec.specs.Format.{fieldOf, unless, Res, got, stuck, texts}
+use Rattle.codec.specs.Format.{fieldOf, unless, texts}
+use Rattle.codec.specs.Message.{Messages}
+use Rattle.codec.proofs.Message as Message
 use Rattle.codec.proofs.Values.{num-laws}
 use Rattle.codec.proofs.Lengths.{field-length, unless-length, texts-length}
 use Rattle.filing.specs.Form.{yearValue, pppiValue, rateValue, aicValue, isLeftOut, factorsValue, lineValue, entryValue, markValue, isNone, withinValue, lineItem, entryItem, Parts, form}
-use Rattle.filing.specs.Return.{yearOf, partsOf, mostBytes, Reading, whole, refused, finish, readingOf, isRefused, yearIn, readRows, readYear, validYear, returnOf}
+use Rattle.filing.specs.Return.{yearOf, partsOf, mostBytes, Reading, whole, refused, readingOf, isRefused, yearIn, readRows, readYear, validYear, returnOf}
+use Rattle.round_trip.specs.Places.{Files}
 use Rattle.round_trip.proofs.Lawful.{line-laws, entry-laws, factors-laws, within-laws, form-lawful}
 use Rattle.round_trip.proofs.Years.{Fine, fine, fine-made, year-fine, year-back, parts-valid, parts-back, or-second}
 
@@ -50,59 +53,47 @@ long p f =
     unless-length (isNone w) (fieldOf 9 withinValue w) 11 (λ e. field-length 9 withinValue within-laws w (or-second (isNone w) _ (f .paid) e)) in
     record { most = simp length-append (omega (arith, f .few, f .fewer)); least = simp length-append (omega arith) }
 
+-- ---- a return is a message of its format
+-- what the format may write is the return of a valid year
+files : (p : Parts) → form .ok p ≡ true → Files (yearOf p) (form .write p)
+unfolding returnOf
+files p h =
+    let f = fine p h in
+    let ls = p .1 .1 .1 .1 .1 .0 in
+    record {
+      row = length-append ls (replicate (lineSlots - length ls) zeroLine) ∙ omega (arith, length-replicate (lineSlots - length ls) zeroLine, f .few);
+      slotted = holding-slots lastRegimeEnd (p .1 .1 .1 .1 .1 .1 .0) (f .fewer);
+      valid = parts-valid p f;
+      is = ap (form .write) (parts-back p f);
+    }
+
+pub return-messages : Messages form yearOf partsOf Files
+unfolding returnOf
+return-messages =
+    record {
+      said = files;
+      ok = λ y bs f. fine-made (partsOf y) (year-fine y (f .valid) (f .row) (f .slotted));
+      is = λ y bs f. f .is;
+      back = λ y bs f. year-back y (f .valid) (f .row) (f .slotted);
+    }
+
 -- ---- a valid year, with its 64 line slots and 400 entry slots
 module _ (y : Year) (row : length (y .lines) ≡ lineSlots) (slotted : length (y .log .entries) ≡ slots) (v : validYear y ≡ true) where
   pub fits : (length (returnOf y) ≤ 6077) × (23 ≤ length (returnOf y))
   unfolding returnOf
   fits = let n = long (partsOf y) (year-fine y v row slotted) in (n .most, n .least)
 
-  -- its bytes are read to the end
-  pub all-read : form .read (returnOf y) ≡ got (partsOf y) []
-  unfolding returnOf
-  all-read =
-      ap (form .read) (sym (append-nil (form .write (partsOf y)))) ∙ form-lawful .there (partsOf y) [] (fine-made (partsOf y) (year-fine y v row slotted)) tt
-
   -- "a valid year that is written reads back as itself"
   pub written-read : readingOf (returnOf y) ≡ whole y
-  unfolding readingOf
   written-read =
-      rw (le-leb (length (returnOf y)) mostBytes (omega (arith, fits .0)), all-read) (ap whole (year-back y v row slotted))
+      Message.written-read form-lawful return-messages mostBytes y (returnOf y) (record { row = row; slotted = slotted; valid = v; is = refl }) (omega (arith, fits .0))
 
 -- ---- a return that is read
-whole-not : (place : ℕ) (y : Year) → refused place ≡ whole y → ⊥
-whole-not place y e = let z : _≡_ {A = ℕ} 0 1 = cc in not-suc-le-zero {n = 0} (omega arith)
-
-pub same-year : (x y : Year) → whole x ≡ whole y → x ≡ y
-same-year x y e = cc
-
--- what a reading to the end found
-pub record Found (bs : List ℕ) (y : Year) : Type 0 where
-  pub parts : Parts
-  pub read : form .read bs ≡ got parts []
-  pub year : yearOf parts ≡ y
-
-finish-says : (bs : List ℕ) (y : Year) (n : ℕ) (r : Res Parts) → form .read bs ≡ r → finish n r ≡ whole y → Found bs y
-finish-says bs y n (got p []) e h = record { parts = p; read = e; year = same-year (yearOf p) y h }
-finish-says bs y n (got p (x ∷ rest)) e h = absurd (whole-not (n - length (x ∷ rest)) y h)
-finish-says bs y n (stuck why rest) e h = absurd (whole-not (n - length rest) y h)
-
-pub found : (bs : List ℕ) (y : Year) → readingOf bs ≡ whole y → Found bs y
-unfolding readingOf
-found bs y h = by (leb (length bs) mostBytes) h
-  where
-    by : (t : Bool) → cond t (finish (length bs) (form .read bs)) (refused mostBytes) ≡ whole y → Found bs y
-    by true h = finish-says bs y (length bs) (form .read bs) refl h
-    by false h = absurd (whole-not mostBytes y h)
-
 -- "A return that is read and written again gives its own bytes": the year that is read is valid, and its bytes are those
 pub read-written : (bs : List ℕ) (y : Year) → Bytes bs → readingOf bs ≡ whole y → (returnOf y ≡ bs) × (validYear y ≡ true)
-unfolding returnOf
 read-written bs y b h =
-    let r = found bs y h in
-    let k = form-lawful .back bs (r .parts) [] b (r .read) in
-    let f = fine (r .parts) (k .1) in
-    let e : form .write (partsOf (yearOf (r .parts))) ≡ bs = ap (form .write) (parts-back (r .parts) f) ∙ sym (k .0 ∙ append-nil (form .write (r .parts))) in
-    (ap (λ (x : Year). form .write (partsOf x)) (sym (r .year)) ∙ e, ap validYear (sym (r .year)) ∙ parts-valid (r .parts) f)
+    let f = Message.read-written form-lawful return-messages mostBytes bs y b h in
+    (f .is, f .valid)
 
 -- where no row applies the reading is of a year, and the year is valid
 pub accepted-whole : (bs : List ℕ) → lowest (readRows bs) ≡ 0 → readingOf bs ≡ whole (readYear bs)
@@ -110,7 +101,7 @@ accepted-whole bs h = by (readingOf bs) h
   where
     by : (r : Reading) → _≡_ {A = ℕ} (cond (isRefused r) 13 0) 0 → r ≡ whole (yearIn r)
     by (whole y) h = refl
-    by (refused place) h = absurd (not-suc-le-zero {n = 0} (omega arith))
+    by (refused why place) h = absurd (not-suc-le-zero {n = 0} (omega arith))
 
 pub read-valid : (bs : List ℕ) → Bytes bs → lowest (readRows bs) ≡ 0 → validYear (readYear bs) ≡ true
 read-valid bs b h = read-written bs (readYear bs) b (accepted-whole bs h) .1
