@@ -1,7 +1,7 @@
 -- What a call on a slice answers, where the bytes are there and where not. Assumes nothing.
 use mathlib.Core.Path.{_≡_, refl, ap, _∙_}
 use mathlib.Core.Bool.{Bool, true, false, cond, _&&_}
-use mathlib.Core.List.{List, []}
+use mathlib.Core.List.{List, [], _++_}
 use mathlib.Core.Option.{Option, some, none}
 use Prim.Native.Nat.{ℕ, zero, suc, _+_, _≤_, _<_}
 use native.Mathlib.Omega.{arith}
@@ -10,9 +10,9 @@ use lib.Dec.{leb}
 use lib.IntN.{ℤ}
 use lib.ListN.{length, take, drop}
 use Rattle.codec.specs.Numbers.{spelled, bytesOf}
-use Rattle.codec.specs.Fields.{framed}
+use Rattle.codec.specs.Fields.{head, framed}
 use Rattle.codec.specs.Format.{num, int, field}
-use Rattle.codec.specs.Leaves.{numberOf, numberBytes, numberFound, amountFound, numberField, amountOf}
+use Rattle.codec.specs.Leaves.{numberOf, numberBytes, numberFieldBytes, numberFound, amountFound, numberField, amountOf}
 use Rattle.codec.specs.declared.FoundNumber.the-variants as N
 use Rattle.codec.specs.declared.FoundAmount.the-variants as A
 use Rattle.codec.proofs.Positions.{field-is, field-not}
@@ -24,6 +24,14 @@ number-there n bs h k = rw (le-leb n 8 h, le-leb n (length bs) k)
 pub bytes-there : (n v : ℕ) → n ≤ 8 → numberBytes n v ≡ bytesOf n v
 unfolding numberBytes
 bytes-there n v h = rw (le-leb n 8 h)
+
+pub field-bytes-there : (tag n v : ℕ) → n ≤ 8 → numberFieldBytes tag n v ≡ head tag n ++ bytesOf n v
+unfolding numberFieldBytes
+field-bytes-there tag n v h = rw (le-leb n 8 h)
+
+pub field-bytes-wide : (tag n v : ℕ) → 8 < n → numberFieldBytes tag n v ≡ []
+unfolding numberFieldBytes
+field-bytes-wide tag n v h = rw (lt-leb n 8 h)
 
 pub field-there : (tag n lo hi : ℕ) (bs : List ℕ) → n ≤ 8 → numberField tag n lo hi bs ≡ numberFound (field tag (num n lo hi) bs)
 unfolding numberField

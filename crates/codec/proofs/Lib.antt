@@ -11,3 +11,7 @@ pub mod Lengths
 pub mod Buffers
 pub mod Leaves
 pub mod Message
+pub mod Steps
+pub mod Rows
+pub mod Found
+pub mod Putting

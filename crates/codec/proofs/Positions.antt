@@ -16,7 +16,7 @@ use mir.Val.{toZ, SFits}
 use Rattle.lists.proofs.Tests.{and-left, and-right, le-or-lt}
 use Rattle.codec.specs.Numbers.{spelled}
 use Rattle.codec.specs.Fields.{framed}
-use Rattle.codec.specs.Format.{Value, when, num, int, field, tagged, one, opt, ReadAt}
+use Rattle.codec.specs.Format.{Value, when, num, int, Item, field, tagged, one, opt, ReadAt}
 use Rattle.codec.proofs.Numbers.{framed-at, framed-short}
 use Rattle.codec.proofs.Values.{when-true}
 
@@ -50,6 +50,13 @@ field-room tag v s at a h e = go (framed tag (v .len) (drop at s)) refl e
     go : (t : Bool) → framed tag (v .len) (drop at s) ≡ t → when t (v .get (drop 3 (drop at s))) ≡ some a → at + 3 + v .len ≤ length s
     go true f w = room tag (v .len) s at f
     go false f w = absurd (let z : _≡_ {A = ℕ} 0 1 = cc in omega arith)
+
+-- a field that is found lies inside the bytes
+abbrev pub Inside : {A : Type 0} → Item A → Type 0
+Inside {A} f = (bs : List ℕ) (a : A) → f .look bs ≡ some a → f .size a ≤ length bs
+
+pub tagged-inside : {A : Type 0} (tag : ℕ) (v : Value A) → Inside (tagged tag v)
+tagged-inside tag v bs a e = omega (arith, field-room tag v bs 0 a (omega arith) e)
 
 pub drop-more : (n p q : ℕ) (s : List ℕ) → p + n ≡ q → drop n (drop p s) ≡ drop q s
 drop-more n p q s e = drop-drop n p s ∙ ap (λ (k : ℕ). drop k s) e

@@ -139,6 +139,11 @@ unfoldable pub texts : {A : Type 0} → (List A → Item A) → List A → List 
 texts f before [] = []
 texts f before (a ∷ l) = f before .text a ++ texts f (before ++ (a ∷ [])) l
 
+-- how many bytes they have together
+unfoldable pub sizes : {A : Type 0} → (List A → Item A) → List A → List A → ℕ
+sizes f before [] = 0
+sizes f before (a ∷ l) = f before .size a + sizes f (before ++ (a ∷ [])) l
+
 unfoldable pub allFine : {A : Type 0} → (List A → Item A) → List A → List A → Bool
 allFine f before [] = true
 allFine f before (a ∷ l) = f before .fine a && allFine f (before ++ (a ∷ [])) l
@@ -167,3 +172,8 @@ both c d = record {
 pub record ReadAt {A : Type 0} (c : Codec A) (s : List ℕ) (at : ℕ) (a : A) (next : ℕ) : Type 0 where
   pub is : c .read (drop at s) ≡ got a (drop next s)
   pub within : next ≤ length s
+
+-- from place `at` on it is stuck by this number, at that place
+pub record StuckAt {A : Type 0} (c : Codec A) (s : List ℕ) (at why place : ℕ) : Type 0 where
+  pub is : c .read (drop at s) ≡ stuck why (drop place s)
+  pub within : place ≤ length s

@@ -1,12 +1,13 @@
 -- What the calls on a slice and a place answer, on every input.
 use mathlib.Core.Bool.{Bool, cond, _&&_}
-use mathlib.Core.List.{List, []}
+use mathlib.Core.List.{List, [], _++_}
 use mathlib.Core.Option.{Option, some, none}
 use Prim.Native.Nat.{ℕ}
 use lib.Dec.{leb}
 use lib.IntN.{ℤ}
 use lib.ListN.{length, take}
 use Rattle.codec.specs.Numbers.{spelled, bytesOf}
+use Rattle.codec.specs.Fields.{head}
 use Rattle.codec.specs.Format.{num, int, field, when}
 use Rattle.codec.specs.declared.FoundNumber.{FoundNumber}
 use Rattle.codec.specs.declared.FoundNumber.the-variants as N
@@ -27,6 +28,10 @@ numberOf n bs = cond (isThere n bs) (spelled 0 (take n bs)) 0
 -- the bytes of a number; none where it is too wide
 unfoldable pub numberBytes : ℕ → ℕ → List ℕ
 numberBytes n v = cond (leb n widest) (bytesOf n v) []
+
+-- the bytes of a field of one number; none where it is too wide
+unfoldable pub numberFieldBytes : ℕ → ℕ → ℕ → List ℕ
+numberFieldBytes tag n v = cond (leb n widest) (head tag n ++ bytesOf n v) []
 
 -- what is found, as an answer
 abbrev pub numberFound : Option ℕ → FoundNumber

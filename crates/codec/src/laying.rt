@@ -9,7 +9,7 @@ ghost use mir.Val.{ofZ};
 ghost use Rattle.codec.specs.Numbers.{bytesOf};
 ghost use Rattle.codec.specs.Fields.{head};
 ghost use Rattle.codec.specs.Buffers.{after, laid};
-ghost use Rattle.codec.specs.Leaves.{numberBytes};
+ghost use Rattle.codec.specs.Leaves.{numberBytes, numberFieldBytes};
 
 // The n low bytes of v from `at` on, high byte first.
 fn lay(out: &mut [u8], at: usize, n: usize, v: u64)
@@ -59,6 +59,27 @@ pub fn put_head(out: &mut [u8], at: usize, tag: u8, len: u16) -> usize
     out[at] = tag;
     lay(out, at + 1, 2, len as u64);
     at + 3
+}
+
+// Writes a field of one number of n bytes from `at` on and answers the place after it; where there is no room, nothing and `at`.
+pub fn put_number(out: &mut [u8], at: usize, tag: u8, n: u16, v: u64) -> usize
+    ensures { λ r. ⌜
+        (now (out .exit) ≡ laid (now (out .entry)) at (numberFieldBytes tag n v))
+        × (r ≡ after (now (out .entry)) at (numberFieldBytes tag n v))
+        ⌝ }
+{
+    let width = n as usize;
+    if WIDEST < width {
+        return at;
+    }
+    if out.len() < at {
+        return at;
+    }
+    if out.len() - at < 3 + width {
+        return at;
+    }
+    let p = put_head(out, at, tag, n);
+    put(out, p, width, v)
 }
 
 // The 64 bits of a number in two's complement.

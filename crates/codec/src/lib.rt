@@ -4,6 +4,7 @@ mod laying;
 
 pub use laying::put;
 pub use laying::put_head;
+pub use laying::put_number;
 pub use laying::unsigned;
 use money::within;
 ghost use mathlib.Core.Path.{_≡_};

@@ -110,7 +110,18 @@ abbrev pub within : Codec ℤ
 within = opt (tagged 9 withinValue) (pos 0) isNone
 
 -- ---- "Tags ascend; only 06 and 07 repeat."
--- all that follows the four required fields
+-- the four required fields
+abbrev pub RequiredParts : Type 0
+RequiredParts = ℕ × (ℕ × (ℕ × ℕ))
+
+abbrev pub required : Codec RequiredParts
+required =
+    both (one (tagged 1 yearValue)) (λ number.
+    both (one (tagged 2 pppiValue)) (λ pppi.
+    both (one (tagged 3 rateValue)) (λ rate.
+    one (tagged 4 aicValue))))
+
+-- all that follows them in the return of a year
 abbrev pub BodyParts : Type 0
 BodyParts = (ℕ × ℕ) × (List Line × (List Entry × (ℕ × ℤ)))
 
@@ -123,12 +134,7 @@ body number =
     within))))
 
 abbrev pub Parts : Type 0
-Parts = ℕ × (ℕ × (ℕ × (ℕ × BodyParts)))
+Parts = RequiredParts × BodyParts
 
 unfoldable pub form : Codec Parts
-form =
-    both (one (tagged 1 yearValue)) (λ number.
-    both (one (tagged 2 pppiValue)) (λ pppi.
-    both (one (tagged 3 rateValue)) (λ rate.
-    both (one (tagged 4 aicValue)) (λ aic.
-    body number))))
+form = both required (λ h. body (h .0))

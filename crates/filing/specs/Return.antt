@@ -1,15 +1,15 @@
 -- What reading and writing a return give: document 01, "The yearly return" and "Numbers a call can give instead".
 use mathlib.Core.Bool.{Bool, cond, not, _&&_}
-use mathlib.Core.List.{List, [], _∷_, _++_}
-use Prim.Native.Nat.{ℕ, _-_}
+use mathlib.Core.List.{List, [], _∷_}
+use Prim.Native.Nat.{ℕ}
 use lib.Dec.{ltb, eqb}
-use lib.ListN.{length, take, replicate}
-use Rattle.lists.specs.Lists.{all}
+use lib.ListN.{length, take}
+use Rattle.lists.specs.Lists.{all, padded}
 use Rattle.refusals.specs.Refusals.{Rows, accepted}
 use Rattle.refusals.specs.declared.Refusal.the-variants.{BrokenLog, BadYear, Malformed, NoRoom}
 use Rattle.refusals.specs.declared.Answer.the-variants.{Refused}
+use Rattle.outage.specs.declared.Log.{Log}
 use Rattle.outage.specs.Log.{lastRegimeEnd, validLog, live, holding}
-use Rattle.year.specs.declared.Line.{Line}
 use Rattle.year.specs.declared.Year.{Year}
 use Rattle.year.specs.Year.{freshYear, goodYearRecord, lineSlots, zeroLine}
 use Rattle.codec.specs.Message as Message
@@ -20,47 +20,32 @@ pub use Rattle.filing.specs.Form.{leftOut, isLeftOut}
 pub use Rattle.codec.specs.Message.{whole, refused, isRefused, placeIn}
 
 -- ---- a year and the parts of its return
--- "Line slots past the count are zero."
-abbrev pub padded : List Line → List Line
-padded ls = ls ++ replicate (lineSlots - length ls) zeroLine
-
 abbrev pub yearOf : Parts → Year
 yearOf p = record {
-  number = p .0;
-  pppi = p .1 .0;
-  rate = p .1 .1 .0;
-  aic = p .1 .1 .1 .0;
-  pyc = p .1 .1 .1 .1 .0 .0;
-  pyf = p .1 .1 .1 .1 .0 .1;
-  lines = padded (p .1 .1 .1 .1 .1 .0);
-  «line_count» = length (p .1 .1 .1 .1 .1 .0);
-  exceptional = eqb (p .1 .1 .1 .1 .1 .1 .1 .0) 1;
-  within = p .1 .1 .1 .1 .1 .1 .1 .1;
-  log = holding lastRegimeEnd (p .1 .1 .1 .1 .1 .1 .0);
+  number = p .0 .0;
+  pppi = p .0 .1 .0;
+  rate = p .0 .1 .1 .0;
+  aic = p .0 .1 .1 .1;
+  pyc = p .1 .0 .0;
+  pyf = p .1 .0 .1;
+  -- "Line slots past the count are zero."
+  lines = padded lineSlots zeroLine (p .1 .1 .0);
+  «line_count» = length (p .1 .1 .0);
+  exceptional = eqb (p .1 .1 .1 .1 .0) 1;
+  within = p .1 .1 .1 .1 .1;
+  log = holding lastRegimeEnd (p .1 .1 .1 .0);
 }
 
 abbrev pub partsOf : Year → Parts
 partsOf y = (
-  y .number,
+  (y .number, (y .pppi, (y .rate, y .aic))),
   (
-    y .pppi,
+    (y .pyc, y .pyf),
     (
-      y .rate,
+      take (y .«line_count») (y .lines),
       (
-        y .aic,
-        (
-          (y .pyc, y .pyf),
-          (
-            take (y .«line_count») (y .lines),
-            (
-              live (y .log),
-              (
-                cond (y .exceptional) 1 0,
-                y .within,
-              ),
-            ),
-          ),
-        ),
+        live (y .log),
+        (cond (y .exceptional) 1 0, y .within),
       ),
     ),
   ),
@@ -98,9 +83,13 @@ abbrev pub refusedAt : ℕ → Return
 refusedAt place = record { answer = Refused Malformed; place = place; year = freshYear }
 
 -- ---- writing
--- 9: all of the year but its log in range, no "start outside it" nor "a regime end other than 13,632,480"
+-- 9: no "start outside it" nor "a regime end other than 13,632,480"
+abbrev pub logFits : Log → ℕ → Bool
+logFits log number = eqb (log .«regime_end») lastRegimeEnd && all (startsIn number) (live log)
+
+-- nor anything of the year but its log out of range
 abbrev pub fileable : Year → Bool
-fileable y = goodYearRecord y && (eqb (y .log .«regime_end») lastRegimeEnd && all (startsIn (y .number)) (live (y .log)))
+fileable y = goodYearRecord y && logFits (y .log) (y .number)
 
 -- a valid year, that is one that may be written
 abbrev pub validYear : Year → Bool

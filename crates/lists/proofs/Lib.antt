@@ -3,3 +3,4 @@ pub mod Tests
 pub mod Lists
 pub mod Places
 pub mod Tables
+pub mod Padded

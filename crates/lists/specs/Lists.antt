@@ -1,7 +1,8 @@
 -- Tests over a list, parts of it, and sums.
 use mathlib.Core.Bool.{Bool, true, false, cond, _&&_, _||_}
-use mathlib.Core.List.{List, [], _∷_}
-use Prim.Native.Nat.{ℕ, zero, suc, _+_}
+use mathlib.Core.List.{List, [], _∷_, _++_}
+use Prim.Native.Nat.{ℕ, zero, suc, _+_, _-_}
+use lib.ListN.{length, replicate}
 
 -- each element passes the test
 abbrev pub all : {A : Type 0} → (A → Bool) → List A → Bool
@@ -32,3 +33,7 @@ total f (x ∷ xs) = f x + total f xs
 abbrev pub sumFrom : ℕ → ℕ → (ℕ → ℕ) → ℕ
 sumFrom a zero f = 0
 sumFrom a (suc n) f = sumFrom a n f + f (a + n)
+
+-- the elements in the first of n slots, and z in each slot past them
+abbrev pub padded : {A : Type 0} → ℕ → A → List A → List A
+padded n z l = l ++ replicate (n - length l) z

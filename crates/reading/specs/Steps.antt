@@ -3,16 +3,17 @@ use mathlib.Core.Bool.{Bool, true, cond, _&&_}
 use mathlib.Core.List.{List}
 use mathlib.Core.Option.{Option, some, none}
 use mathlib.Core.Path.{_≡_}
-use Prim.Native.Nat.{ℕ, _-_}
+use Prim.Native.Nat.{ℕ}
 use lib.Dec.{leb, ltb}
 use lib.ListN.{length}
+use Rattle.lists.specs.Lists.{padded}
 use Rattle.outage.specs.declared.Entry.{Entry}
 use Rattle.outage.specs.Log.{lastRegimeEnd, goodEntry, holding}
 use Rattle.year.specs.declared.Line.{Line}
+use Rattle.year.specs.Year.{lineSlots, zeroLine}
 use Rattle.calendar.specs.Years.{goodYear}
-use Rattle.codec.specs.Format.{Value, such, tagged, Res, got, stuck, Codec, one, both, ReadAt}
-use Rattle.filing.specs.Form.{yearValue, pppiValue, rateValue, aicValue, entryLayout, lines, outages, body}
-use Rattle.filing.specs.Return.{padded}
+use Rattle.codec.specs.Format.{Value, such, malformed, ReadAt, StuckAt}
+use Rattle.filing.specs.Form.{entryLayout, lines, outages, required, body}
 use Rattle.reading.specs.declared.fields.LineAt.{LineAt}
 use Rattle.reading.specs.declared.fields.LineAt.the-variants as L
 use Rattle.reading.specs.declared.fields.EntryAt.{EntryAt}
@@ -50,7 +51,7 @@ standing first end freeFrom = such (mayStand first end freeFrom) entryLayout
 -- ---- the lines read from a place on stand in the first slots
 pub record LinesRead (s : List ℕ) (from : ℕ) (r : Lines) : Type 0 where
   pub read : List Line
-  pub held : r .lines ≡ padded read
+  pub held : r .lines ≡ padded lineSlots zeroLine read
   pub counted : r .count ≡ length read
   pub at : ReadAt lines s from read (r .next)
 
@@ -60,30 +61,20 @@ pub record OutagesRead (number : ℕ) (s : List ℕ) (from : ℕ) (r : Outages) 
   pub held : r .log ≡ holding lastRegimeEnd read
   pub at : ReadAt (outages number) s from read (r .next)
 
--- ---- the four required fields
-abbrev pub HeadParts : Type 0
-HeadParts = ℕ × (ℕ × (ℕ × ℕ))
-
-abbrev pub head : Codec HeadParts
-head =
-    both (one (tagged 1 yearValue)) (λ number.
-    both (one (tagged 2 pppiValue)) (λ pppi.
-    both (one (tagged 3 rateValue)) (λ rate.
-    one (tagged 4 aicValue))))
-
-abbrev pub headFound : ℕ → Res HeadParts → Required
-headFound n (got p rest) = R.Are (record { number = p .0; pppi = p .1 .0; rate = p .1 .1 .0; aic = p .1 .1 .1 })
-headFound n (stuck why rest) = R.Not (n - length rest)
-
+-- ---- the four required fields, or the place of the first that is not there
 pub record HeadRead (s : List ℕ) (h : Head) : Type 0 where
-  pub at : ReadAt head s 0 (h .number, (h .pppi, (h .rate, h .aic))) 23
+  pub at : ReadAt required s 0 (h .number, (h .pppi, (h .rate, h .aic))) 23
   pub year : goodYear (h .number) ≡ true
+
+abbrev pub RequiredRead : List ℕ → Required → Type 0
+RequiredRead s (R.Are h) = HeadRead s h
+RequiredRead s (R.Not place) = StuckAt required s 0 malformed place
 
 -- ---- all that follows them
 pub record BodyRead (number : ℕ) (s : List ℕ) (from : ℕ) (r : Body) : Type 0 where
   pub read : List Line
   pub logged : List Entry
-  pub lined : r .lines ≡ padded read
+  pub lined : r .lines ≡ padded lineSlots zeroLine read
   pub counted : r .«line_count» ≡ length read
   pub held : r .log ≡ holding lastRegimeEnd logged
   pub at : ReadAt (body number) s from ((r .pyc, r .pyf), (read, (logged, (cond (r .exceptional) 1 0, r .within)))) (r .next)

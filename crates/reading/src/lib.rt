@@ -21,7 +21,7 @@ ghost use Prim.Native.Nat.{_≤_};
 ghost use lib.ListN.{length};
 ghost use Rattle.calendar.specs.Years.{goodYear};
 ghost use Rattle.filing.specs.Return.{mostBytes};
-ghost use Rattle.reading.specs.Steps.{BodyRead, HeadRead, head, headFound};
+ghost use Rattle.reading.specs.Steps.{BodyRead, HeadRead, RequiredRead};
 ghost use Rattle.reading.specs.Reading.{ReturnGives};
 
 // What follows the four required fields, and where the next field starts.
@@ -79,7 +79,7 @@ impl Head {
 }
 
 fn required_of(s: &[u8]) -> Required
-    ensures { λ r. ⌜ r ≡ headFound (length (now (s .entry))) (head .read (now (s .entry))) ⌝ }
+    ensures { λ r. ⌜ RequiredRead (now (s .entry)) r ⌝ }
 {
     let FoundNumber::Is(number) = number_field(
         s,

@@ -3,7 +3,7 @@
 use mathlib.Core.Path.{_≡_, refl, sym, ap, subst, _∙_}
 use mathlib.Core.Bool.{Bool, true, false, cond, not, _&&_, _||_}
 use mathlib.Core.Logic.{_⊎_, inl, inr}
-use mathlib.Core.List.{List, [], _∷_, _++_, append-nil, map}
+use mathlib.Core.List.{List, [], _∷_, _++_, append-nil, append-assoc, map}
 use Prim.Native.Nat.{ℕ, suc, _≤_, _<_}
 use native.Mathlib.Omega.{arith}
 use borrow.Author.Tests.{eq-eqb, leb-true, le-leb, lt-ltb, le-ltb}
@@ -21,8 +21,8 @@ use Rattle.codec.specs.Numbers.{Bytes, spelled, bytesOf}
 use Rattle.codec.specs.Fields.{head, isWhole, joined}
 use Rattle.codec.specs.Format.{fieldOf, unless, texts}
 use Rattle.codec.proofs.Fields.{joined-append, same-fields}
-use Rattle.filing.specs.Form.{yearValue, pppiValue, rateValue, aicValue, isLeftOut, markValue, isNone, lineItem, entryItem, form}
-use Rattle.filing.specs.Return.{readRows, readYear, returnOf}
+use Rattle.filing.specs.Form.{yearValue, pppiValue, rateValue, aicValue, isLeftOut, markValue, isNone, lineItem, entryItem, body, form}
+use Rattle.filing.specs.Return.{partsOf, readRows, readYear, returnOf}
 use Rattle.round_trip.specs.Flat.{factorsField, lineField, outageField, markField, withinField, present, fieldsOf, tagOf, mayPrecede, Ordered}
 use Rattle.round_trip.proofs.RoundTrip.{accepted-whole, read-written}
 
@@ -58,7 +58,8 @@ flat y =
     let es = live (y .log) in
     let full = isLeftOut (y .number) (y .pyc, y .pyf) in
     let zero = isNone (y .within) in
-    ap (λ (m : List ℕ). fieldOf 1 yearValue (y .number) ++ (fieldOf 2 pppiValue (y .pppi) ++ (fieldOf 3 rateValue (y .rate) ++ (fieldOf 4 aicValue (y .aic) ++ m))))
+    append-assoc (fieldOf 1 yearValue (y .number)) (fieldOf 2 pppiValue (y .pppi) ++ (fieldOf 3 rateValue (y .rate) ++ fieldOf 4 aicValue (y .aic))) (body (y .number) .write (partsOf y .1))
+    ∙ ap (λ (m : List ℕ). fieldOf 1 yearValue (y .number) ++ (fieldOf 2 pppiValue (y .pppi) ++ (fieldOf 3 rateValue (y .rate) ++ (fieldOf 4 aicValue (y .aic) ++ m))))
     (parts-flat (present (not full) (factorsField (y .pyc) (y .pyf))) (map lineField ls) (map outageField es) (present (y .exceptional) markField) (present (not zero) (withinField (y .within)))
     (unless-present full (factorsField (y .pyc) (y .pyf)))
     (lines-flat [] ls)

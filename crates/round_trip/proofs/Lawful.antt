@@ -17,23 +17,23 @@ use Rattle.codec.proofs.Values.{ValueLaws, num-laws, int-laws, pair-laws, mappe
 use Rattle.codec.proofs.Items.{ItemLaws, tagged-laws}
 use Rattle.codec.proofs.Formats.{Lawful, one-lawful, opt-lawful, many-lawful, both-lawful}
 use Rattle.codec.proofs.Places.{Placed, Numbered, one-placed, opt-placed, many-placed, both-placed, one-numbered, opt-numbered, many-numbered, both-numbered}
-use Rattle.filing.specs.Form.{yearValue, pppiValue, rateValue, aicValue, leftOut, isLeftOut, factorsValue, toLine, fromLine, lineLayout, lineValue, toEntry, fromEntry, entryLayout, mayFollow, entryValue, markValue, isNone, withinValue, lineItem, entryItem, factors, mark, within, form}
+use Rattle.filing.specs.Form.{yearValue, pppiValue, rateValue, aicValue, leftOut, isLeftOut, factorsValue, toLine, fromLine, lineLayout, lineValue, toEntry, fromEntry, entryLayout, mayFollow, entryValue, markValue, isNone, withinValue, lineItem, entryItem, factors, mark, within, required, body, form}
 
 -- ---- values
-pub line-laws : ValueLaws lineValue
+line-laws : ValueLaws lineValue
 line-laws =
     such-laws goodLine lineLayout
     (mapped-laws toLine fromLine (pair (num 1 0 255) (pair (num 1 0 255) (int 1000000000))) (λ l. refl) (λ p. refl)
     (pair-laws (num 1 0 255) (pair (num 1 0 255) (int 1000000000)) (num-laws 1 0 255 (omega arith))
     (pair-laws (num 1 0 255) (int 1000000000) (num-laws 1 0 255 (omega arith)) (int-laws 1000000000 (omega arith)))))
 
-pub layout-laws : ValueLaws entryLayout
+layout-laws : ValueLaws entryLayout
 layout-laws =
     mapped-laws toEntry fromEntry (pair (num 4 0 4294967295) (pair (num 4 0 4294967295) (num 2 0 65535))) (λ e. refl) (λ p. refl)
     (pair-laws (num 4 0 4294967295) (pair (num 4 0 4294967295) (num 2 0 65535)) (num-laws 4 0 4294967295 (omega arith))
     (pair-laws (num 4 0 4294967295) (num 2 0 65535) (num-laws 4 0 4294967295 (omega arith)) (num-laws 2 0 65535 (omega arith))))
 
-pub entry-laws : (number : ℕ) (before : List Entry) → ValueLaws (entryValue number before)
+entry-laws : (number : ℕ) (before : List Entry) → ValueLaws (entryValue number before)
 entry-laws number before = such-laws (mayFollow number before) entryLayout layout-laws
 
 pub factors-laws : (number : ℕ) → ValueLaws (factorsValue number)
@@ -60,10 +60,10 @@ aic-item = tagged-laws 4 aicValue (omega arith) (num-laws 2 0 20000 (omega arith
 factors-item : (number : ℕ) → ItemLaws (tagged 5 (factorsValue number))
 factors-item number = tagged-laws 5 (factorsValue number) (omega arith) (factors-laws number)
 
-line-item : (before : List Line) → ItemLaws (lineItem before)
+pub line-item : (before : List Line) → ItemLaws (lineItem before)
 line-item before = tagged-laws 6 lineValue (omega arith) line-laws
 
-entry-item : (number : ℕ) (before : List Entry) → ItemLaws (entryItem number before)
+pub entry-item : (number : ℕ) (before : List Entry) → ItemLaws (entryItem number before)
 entry-item number before = tagged-laws 7 (entryValue number before) (omega arith) (entry-laws number before)
 
 mark-item : ItemLaws (tagged 8 markValue)
@@ -102,42 +102,60 @@ within-lawful =
     opt-lawful (tagged 9 withinValue) within-item (pos 0) isNone refl none-is
     (λ z h. not-yes (isNone z) (and-right (leb (natAbs z) 1000000000) (not (isNone z)) h))
 
-pub form-lawful : Lawful form 1 10
-unfolding form
-form-lawful =
-    both-lawful _ _ 1 2 10 (one-lawful (tagged 1 yearValue) year-item) (λ number.
-    both-lawful _ _ 2 3 10 (one-lawful (tagged 2 pppiValue) pppi-item) (λ pppi.
-    both-lawful _ _ 3 4 10 (one-lawful (tagged 3 rateValue) rate-item) (λ rate.
-    both-lawful _ _ 4 5 10 (one-lawful (tagged 4 aicValue) aic-item) (λ aic.
+required-lawful : Lawful required 1 5
+required-lawful =
+    both-lawful _ _ 1 2 5 (one-lawful (tagged 1 yearValue) year-item) (λ number.
+    both-lawful _ _ 2 3 5 (one-lawful (tagged 2 pppiValue) pppi-item) (λ pppi.
+    both-lawful _ _ 3 4 5 (one-lawful (tagged 3 rateValue) rate-item) (λ rate.
+    one-lawful (tagged 4 aicValue) aic-item)))
+
+body-lawful : (number : ℕ) → Lawful (body number) 5 10
+body-lawful number =
     both-lawful _ _ 5 6 10 (factors-lawful number) (λ f.
     both-lawful _ _ 6 7 10 (many-lawful lineItem 6 line-item (λ before. refl) lineSlots) (λ l.
     both-lawful _ _ 7 8 10 (many-lawful (entryItem number) 7 (entry-item number) (λ before. refl) slots) (λ o.
     both-lawful _ _ 8 9 10 mark-lawful (λ m.
-    within-lawful))))))))
+    within-lawful))))
 
-pub form-placed : Placed form
+pub form-lawful : Lawful form 1 10
 unfolding form
-form-placed =
+form-lawful = both-lawful required (λ h. body (h .0)) 1 5 10 required-lawful (λ h. body-lawful (h .0))
+
+required-placed : Placed required
+required-placed =
     both-placed _ _ 1 2 (one-lawful (tagged 1 yearValue) year-item) (one-placed (tagged 1 yearValue) year-item 1 refl) (λ number.
     both-placed _ _ 2 3 (one-lawful (tagged 2 pppiValue) pppi-item) (one-placed (tagged 2 pppiValue) pppi-item 10000 refl) (λ pppi.
     both-placed _ _ 3 4 (one-lawful (tagged 3 rateValue) rate-item) (one-placed (tagged 3 rateValue) rate-item 100000 refl) (λ rate.
-    both-placed _ _ 4 5 (one-lawful (tagged 4 aicValue) aic-item) (one-placed (tagged 4 aicValue) aic-item 10000 refl) (λ aic.
+    one-placed (tagged 4 aicValue) aic-item 10000 refl)))
+
+body-placed : (number : ℕ) → Placed (body number)
+body-placed number =
     both-placed _ _ 5 6 (factors-lawful number) (opt-placed (tagged 5 (factorsValue number)) (factors-item number) (leftOut number) (isLeftOut number) refl) (λ f.
     both-placed _ _ 6 7 (many-lawful lineItem 6 line-item (λ before. refl) lineSlots) (many-placed lineItem line-item lineSlots) (λ l.
     both-placed _ _ 7 8 (many-lawful (entryItem number) 7 (entry-item number) (λ before. refl) slots) (many-placed (entryItem number) (entry-item number) slots) (λ o.
     both-placed _ _ 8 9 mark-lawful (opt-placed (tagged 8 markValue) mark-item 0 (λ n. eqb n 0) refl) (λ m.
-    opt-placed (tagged 9 withinValue) within-item (pos 0) isNone refl))))))))
+    opt-placed (tagged 9 withinValue) within-item (pos 0) isNone refl))))
+
+pub form-placed : Placed form
+unfolding form
+form-placed = both-placed required (λ h. body (h .0)) 1 5 required-lawful required-placed (λ h. body-placed (h .0))
 
 -- it gives 13 alone
-pub form-numbered : Numbered form malformed
-unfolding form
-form-numbered =
+required-numbered : Numbered required malformed
+required-numbered =
     both-numbered _ _ (one-numbered (tagged 1 yearValue) year-item) (λ number.
     both-numbered _ _ (one-numbered (tagged 2 pppiValue) pppi-item) (λ pppi.
     both-numbered _ _ (one-numbered (tagged 3 rateValue) rate-item) (λ rate.
-    both-numbered _ _ (one-numbered (tagged 4 aicValue) aic-item) (λ aic.
+    one-numbered (tagged 4 aicValue) aic-item)))
+
+body-numbered : (number : ℕ) → Numbered (body number) malformed
+body-numbered number =
     both-numbered _ _ (opt-numbered (tagged 5 (factorsValue number)) (factors-item number) (leftOut number) (isLeftOut number)) (λ f.
     both-numbered _ _ (many-numbered lineItem line-item lineSlots) (λ l.
     both-numbered _ _ (many-numbered (entryItem number) (entry-item number) slots) (λ o.
     both-numbered _ _ (opt-numbered (tagged 8 markValue) mark-item 0 (λ n. eqb n 0)) (λ m.
-    opt-numbered (tagged 9 withinValue) within-item (pos 0) isNone))))))))
+    opt-numbered (tagged 9 withinValue) within-item (pos 0) isNone))))
+
+pub form-numbered : Numbered form malformed
+unfolding form
+form-numbered = both-numbered required (λ h. body (h .0)) required-numbered (λ h. body-numbered (h .0))

@@ -1,13 +1,14 @@
 -- Demand 2: "A return that is read and written again gives its own bytes, and a valid year that is written reads back as
 -- itself." And 13 is given exactly where no valid year writes these bytes. Assumes nothing.
-use mathlib.Core.Path.{_≡_, refl, ap, _∙_}
+use mathlib.Core.Path.{_≡_, refl, ap}
 use mathlib.Core.Bool.{true, cond}
 use mathlib.Core.List.{List, []}
 use Prim.Native.Nat.{ℕ, _-_, _*_, _≤_}
 use native.Mathlib.Nat.{not-suc-le-zero}
 use native.Mathlib.Omega.{arith}
 use lib.Dec.{eqb}
-use lib.ListN.{length, replicate, length-append, length-replicate}
+use lib.ListN.{length, length-append}
+use Rattle.lists.proofs.Padded.{padded-length}
 use Rattle.refusals.specs.Refusals.{lowest}
 use Rattle.outage.specs.Log.{slots, lastRegimeEnd}
 use Rattle.outage.proofs.Holding.{holding-slots}
@@ -18,11 +19,11 @@ use Rattle.codec.specs.Format.{fieldOf, unless, texts}
 use Rattle.codec.specs.Message.{Messages}
 use Rattle.codec.proofs.Message as Message
 use Rattle.codec.proofs.Values.{num-laws}
-use Rattle.codec.proofs.Lengths.{field-length, unless-length, texts-length}
-use Rattle.filing.specs.Form.{yearValue, pppiValue, rateValue, aicValue, isLeftOut, factorsValue, lineValue, entryValue, markValue, isNone, withinValue, lineItem, entryItem, Parts, form}
+use Rattle.codec.proofs.Lengths.{field-length, unless-length, texts-length, sizes-most}
+use Rattle.filing.specs.Form.{yearValue, pppiValue, rateValue, aicValue, isLeftOut, factorsValue, markValue, isNone, withinValue, lineItem, entryItem, Parts, form}
 use Rattle.filing.specs.Return.{yearOf, partsOf, mostBytes, Reading, whole, refused, readingOf, isRefused, yearIn, readRows, readYear, validYear, returnOf}
 use Rattle.round_trip.specs.Places.{Files}
-use Rattle.round_trip.proofs.Lawful.{line-laws, entry-laws, factors-laws, within-laws, form-lawful}
+use Rattle.round_trip.proofs.Lawful.{line-item, entry-item, factors-laws, within-laws, form-lawful}
 use Rattle.round_trip.proofs.Years.{Fine, fine, fine-made, year-fine, year-back, parts-valid, parts-back, or-second}
 
 -- ---- "The longest valid return has 6,077 bytes", the shortest 23
@@ -33,20 +34,21 @@ pub record Long (p : Parts) : Type 0 where
 long : (p : Parts) → Fine p → Long p
 unfolding form
 long p f =
-    let c = p .1 .1 .1 .1 .0 in
-    let ls = p .1 .1 .1 .1 .1 .0 in
-    let es = p .1 .1 .1 .1 .1 .1 .0 in
-    let m = p .1 .1 .1 .1 .1 .1 .1 .0 in
-    let w = p .1 .1 .1 .1 .1 .1 .1 .1 in
-    let n1 : length (fieldOf 1 yearValue (p .0)) ≡ 4 = field-length 1 yearValue (num-laws 1 1 25 (omega arith)) (p .0) (f .year) in
-    let n2 : length (fieldOf 2 pppiValue (p .1 .0)) ≡ 7 = field-length 2 pppiValue (num-laws 4 5000 50000 (omega arith)) (p .1 .0) (f .pppi) in
-    let n3 : length (fieldOf 3 rateValue (p .1 .1 .0)) ≡ 7 = field-length 3 rateValue (num-laws 4 1 200000 (omega arith)) (p .1 .1 .0) (f .rate) in
-    let n4 : length (fieldOf 4 aicValue (p .1 .1 .1 .0)) ≡ 5 = field-length 4 aicValue (num-laws 2 0 20000 (omega arith)) (p .1 .1 .1 .0) (f .aic) in
-    let n5 : length (unless (isLeftOut (p .0) c) (fieldOf 5 (factorsValue (p .0)) c)) ≤ 7 =
-    unless-length (isLeftOut (p .0) c) (fieldOf 5 (factorsValue (p .0)) c) 7 (λ e. field-length 5 (factorsValue (p .0)) (factors-laws (p .0)) c (or-second (isLeftOut (p .0) c) _ (f .factored) e)) in
-    let n6 : length (texts lineItem [] ls) ≡ 13 * length ls = texts-length lineItem 13 (λ b l k. field-length 6 lineValue line-laws l k) [] ls (f .lined) in
-    let n7 : length (texts (entryItem (p .0)) [] es) ≡ 13 * length es =
-    texts-length (entryItem (p .0)) 13 (λ b e k. field-length 7 (entryValue (p .0) b) (entry-laws (p .0) b) e k) [] es (f .logged) in
+    let c = p .1 .0 in
+    let ls = p .1 .1 .0 in
+    let es = p .1 .1 .1 .0 in
+    let m = p .1 .1 .1 .1 .0 in
+    let w = p .1 .1 .1 .1 .1 in
+    let n1 : length (fieldOf 1 yearValue (p .0 .0)) ≡ 4 = field-length 1 yearValue (num-laws 1 1 25 (omega arith)) (p .0 .0) (f .year) in
+    let n2 : length (fieldOf 2 pppiValue (p .0 .1 .0)) ≡ 7 = field-length 2 pppiValue (num-laws 4 5000 50000 (omega arith)) (p .0 .1 .0) (f .pppi) in
+    let n3 : length (fieldOf 3 rateValue (p .0 .1 .1 .0)) ≡ 7 = field-length 3 rateValue (num-laws 4 1 200000 (omega arith)) (p .0 .1 .1 .0) (f .rate) in
+    let n4 : length (fieldOf 4 aicValue (p .0 .1 .1 .1)) ≡ 5 = field-length 4 aicValue (num-laws 2 0 20000 (omega arith)) (p .0 .1 .1 .1) (f .aic) in
+    let n5 : length (unless (isLeftOut (p .0 .0) c) (fieldOf 5 (factorsValue (p .0 .0)) c)) ≤ 7 =
+    unless-length (isLeftOut (p .0 .0) c) (fieldOf 5 (factorsValue (p .0 .0)) c) 7 (λ e. field-length 5 (factorsValue (p .0 .0)) (factors-laws (p .0 .0)) c (or-second (isLeftOut (p .0 .0) c) _ (f .factored) e)) in
+    let n6 : length (texts lineItem [] ls) ≤ 13 * length ls =
+    omega (arith, texts-length lineItem line-item [] ls (f .lined), sizes-most lineItem 13 (λ b l. omega arith) [] ls) in
+    let n7 : length (texts (entryItem (p .0 .0)) [] es) ≤ 13 * length es =
+    omega (arith, texts-length (entryItem (p .0 .0)) (entry-item (p .0 .0)) [] es (f .logged), sizes-most (entryItem (p .0 .0)) 13 (λ b e. omega arith) [] es) in
     let n8 : length (unless (eqb m 0) (fieldOf 8 markValue m)) ≤ 4 =
     unless-length (eqb m 0) (fieldOf 8 markValue m) 4 (λ e. field-length 8 markValue (num-laws 1 1 1 (omega arith)) m (or-second (eqb m 0) _ (f .marked) e)) in
     let n9 : length (unless (isNone w) (fieldOf 9 withinValue w)) ≤ 11 =
@@ -59,10 +61,9 @@ files : (p : Parts) → form .ok p ≡ true → Files (yearOf p) (form .write p)
 unfolding returnOf
 files p h =
     let f = fine p h in
-    let ls = p .1 .1 .1 .1 .1 .0 in
     record {
-      row = length-append ls (replicate (lineSlots - length ls) zeroLine) ∙ omega (arith, length-replicate (lineSlots - length ls) zeroLine, f .few);
-      slotted = holding-slots lastRegimeEnd (p .1 .1 .1 .1 .1 .1 .0) (f .fewer);
+      row = padded-length lineSlots zeroLine (p .1 .1 .0) (f .few);
+      slotted = holding-slots lastRegimeEnd (p .1 .1 .1 .0) (f .fewer);
       valid = parts-valid p f;
       is = ap (form .write) (parts-back p f);
     }

@@ -7,9 +7,10 @@ use native.Mathlib.Omega.{arith}
 use borrow.Author.Tests.{eqb-true, leb-true, le-leb}
 use lib.Dec.{leb, eqb}
 use lib.IntN.{ℤ, natAbs}
-use lib.ListN.{length, take, drop, replicate, length-drop, take-append-drop}
+use lib.ListN.{length, take, drop, replicate, length-drop}
 use lib.Seq.{length-take-le, take-append-seam, drop-append-seam, append-snoc}
-use Rattle.lists.specs.Lists.{all}
+use Rattle.lists.specs.Lists.{all, padded}
+use Rattle.lists.proofs.Padded.{padded-back}
 use Rattle.lists.proofs.Tests.{and-left, and-right, and-made}
 use Rattle.outage.specs.declared.Entry.{Entry}
 use Rattle.outage.specs.Log.{slots, lastRegimeEnd, goodEntry, validEntries, validLog, live, holding}
@@ -20,55 +21,55 @@ use Rattle.year.specs.declared.Year.{Year}
 use Rattle.year.specs.Year.{goodAmount, goodLine, isZeroLine, goodLines, goodYearRecord, lineSlots, zeroLine}
 use Rattle.year.proofs.Says.{line-says, LinesSay, lines-say, YearSays, year-says}
 use Rattle.codec.specs.Format.{num, pair, allFine}
-use Rattle.filing.specs.Form.{yearValue, pppiValue, rateValue, aicValue, isLeftOut, factorsValue, lineLayout, lineValue, entryLayout, startsIn, mayFollow, entryValue, isNone, withinValue, lineItem, entryItem, factors, lines, outages, mark, within, Parts, form}
-use Rattle.filing.specs.Return.{padded, yearOf, partsOf, fileable, validYear}
+use Rattle.filing.specs.Form.{yearValue, pppiValue, rateValue, aicValue, isLeftOut, factorsValue, lineLayout, lineValue, entryLayout, startsIn, mayFollow, entryValue, isNone, withinValue, lineItem, entryItem, factors, lines, outages, mark, within, Parts, required, form}
+use Rattle.filing.specs.Return.{yearOf, partsOf, logFits, fileable, validYear}
 use Rattle.round_trip.proofs.Lawful.{none-is}
 
 -- ---- the parts of what the format may write
 pub record Fine (p : Parts) : Type 0 where
-  pub year : yearValue .fine (p .0) ≡ true
-  pub pppi : pppiValue .fine (p .1 .0) ≡ true
-  pub rate : rateValue .fine (p .1 .1 .0) ≡ true
-  pub aic : aicValue .fine (p .1 .1 .1 .0) ≡ true
-  pub factored : factors (p .0) .ok (p .1 .1 .1 .1 .0) ≡ true
-  pub few : length (p .1 .1 .1 .1 .1 .0) ≤ lineSlots
-  pub lined : allFine lineItem [] (p .1 .1 .1 .1 .1 .0) ≡ true
-  pub fewer : length (p .1 .1 .1 .1 .1 .1 .0) ≤ slots
-  pub logged : allFine (entryItem (p .0)) [] (p .1 .1 .1 .1 .1 .1 .0) ≡ true
-  pub marked : mark .ok (p .1 .1 .1 .1 .1 .1 .1 .0) ≡ true
-  pub paid : within .ok (p .1 .1 .1 .1 .1 .1 .1 .1) ≡ true
+  pub year : yearValue .fine (p .0 .0) ≡ true
+  pub pppi : pppiValue .fine (p .0 .1 .0) ≡ true
+  pub rate : rateValue .fine (p .0 .1 .1 .0) ≡ true
+  pub aic : aicValue .fine (p .0 .1 .1 .1) ≡ true
+  pub factored : factors (p .0 .0) .ok (p .1 .0) ≡ true
+  pub few : length (p .1 .1 .0) ≤ lineSlots
+  pub lined : allFine lineItem [] (p .1 .1 .0) ≡ true
+  pub fewer : length (p .1 .1 .1 .0) ≤ slots
+  pub logged : allFine (entryItem (p .0 .0)) [] (p .1 .1 .1 .0) ≡ true
+  pub marked : mark .ok (p .1 .1 .1 .1 .0) ≡ true
+  pub paid : within .ok (p .1 .1 .1 .1 .1) ≡ true
 
 pub fine : (p : Parts) → form .ok p ≡ true → Fine p
 unfolding form
 fine p h =
-    let h1 = and-right (yearValue .fine (p .0)) _ h in
-    let h2 = and-right (pppiValue .fine (p .1 .0)) _ h1 in
-    let h3 = and-right (rateValue .fine (p .1 .1 .0)) _ h2 in
-    let h4 = and-right (aicValue .fine (p .1 .1 .1 .0)) _ h3 in
-    let h5 = and-right (factors (p .0) .ok (p .1 .1 .1 .1 .0)) _ h4 in
-    let h6 = and-right (lines .ok (p .1 .1 .1 .1 .1 .0)) _ h5 in
-    let h7 = and-right (outages (p .0) .ok (p .1 .1 .1 .1 .1 .1 .0)) _ h6 in
-    let l = and-left (lines .ok (p .1 .1 .1 .1 .1 .0)) _ h5 in
-    let o = and-left (outages (p .0) .ok (p .1 .1 .1 .1 .1 .1 .0)) _ h6 in
+    let r = and-left (required .ok (p .0)) _ h in
+    let h1 = and-right (yearValue .fine (p .0 .0)) _ r in
+    let h2 = and-right (pppiValue .fine (p .0 .1 .0)) _ h1 in
+    let h4 = and-right (required .ok (p .0)) _ h in
+    let h5 = and-right (factors (p .0 .0) .ok (p .1 .0)) _ h4 in
+    let h6 = and-right (lines .ok (p .1 .1 .0)) _ h5 in
+    let h7 = and-right (outages (p .0 .0) .ok (p .1 .1 .1 .0)) _ h6 in
+    let l = and-left (lines .ok (p .1 .1 .0)) _ h5 in
+    let o = and-left (outages (p .0 .0) .ok (p .1 .1 .1 .0)) _ h6 in
     record {
-      year = and-left (yearValue .fine (p .0)) _ h;
-      pppi = and-left (pppiValue .fine (p .1 .0)) _ h1;
-      rate = and-left (rateValue .fine (p .1 .1 .0)) _ h2;
-      aic = and-left (aicValue .fine (p .1 .1 .1 .0)) _ h3;
-      factored = and-left (factors (p .0) .ok (p .1 .1 .1 .1 .0)) _ h4;
-      few = leb-true _ _ (and-left (leb (length (p .1 .1 .1 .1 .1 .0)) lineSlots) _ l);
-      lined = and-right (leb (length (p .1 .1 .1 .1 .1 .0)) lineSlots) _ l;
-      fewer = leb-true _ _ (and-left (leb (length (p .1 .1 .1 .1 .1 .1 .0)) slots) _ o);
-      logged = and-right (leb (length (p .1 .1 .1 .1 .1 .1 .0)) slots) _ o;
-      marked = and-left (mark .ok (p .1 .1 .1 .1 .1 .1 .1 .0)) _ h7;
-      paid = and-right (mark .ok (p .1 .1 .1 .1 .1 .1 .1 .0)) _ h7;
+      year = and-left (yearValue .fine (p .0 .0)) _ r;
+      pppi = and-left (pppiValue .fine (p .0 .1 .0)) _ h1;
+      rate = and-left (rateValue .fine (p .0 .1 .1 .0)) _ h2;
+      aic = and-right (rateValue .fine (p .0 .1 .1 .0)) _ h2;
+      factored = and-left (factors (p .0 .0) .ok (p .1 .0)) _ h4;
+      few = leb-true _ _ (and-left (leb (length (p .1 .1 .0)) lineSlots) _ l);
+      lined = and-right (leb (length (p .1 .1 .0)) lineSlots) _ l;
+      fewer = leb-true _ _ (and-left (leb (length (p .1 .1 .1 .0)) slots) _ o);
+      logged = and-right (leb (length (p .1 .1 .1 .0)) slots) _ o;
+      marked = and-left (mark .ok (p .1 .1 .1 .1 .0)) _ h7;
+      paid = and-right (mark .ok (p .1 .1 .1 .1 .0)) _ h7;
     }
 
 pub fine-made : (p : Parts) → Fine p → form .ok p ≡ true
 unfolding form
 fine-made p f =
-    and-made (f .year) (and-made (f .pppi) (and-made (f .rate) (and-made (f .aic) (and-made (f .factored)
-    (and-made (and-made (le-leb _ _ (f .few)) (f .lined)) (and-made (and-made (le-leb _ _ (f .fewer)) (f .logged)) (and-made (f .marked) (f .paid))))))))
+    and-made (and-made (f .year) (and-made (f .pppi) (and-made (f .rate) (f .aic))))
+    (and-made (f .factored) (and-made (and-made (le-leb _ _ (f .few)) (f .lined)) (and-made (and-made (le-leb _ _ (f .fewer)) (f .logged)) (and-made (f .marked) (f .paid)))))
 
 -- ---- lines
 line-fine : (l : Line) → goodLine l ≡ true → lineValue .fine l ≡ true
@@ -215,11 +216,11 @@ module _ (y : Year) (v : validYear y ≡ true) where
   filed : fileable y ≡ true
   filed = and-right (validLog (y .log)) (fileable y) v
 
-  fits : (eqb (y .log .«regime_end») lastRegimeEnd && all (startsIn (y .number)) (live (y .log))) ≡ true
-  fits = and-right (goodYearRecord y) (eqb (y .log .«regime_end») lastRegimeEnd && all (startsIn (y .number)) (live (y .log))) filed
+  fits : logFits (y .log) (y .number) ≡ true
+  fits = and-right (goodYearRecord y) (logFits (y .log) (y .number)) filed
 
   pub year-record : goodYearRecord y ≡ true
-  year-record = and-left (goodYearRecord y) (eqb (y .log .«regime_end») lastRegimeEnd && all (startsIn (y .number)) (live (y .log))) filed
+  year-record = and-left (goodYearRecord y) (logFits (y .log) (y .number)) filed
 
   pub to-end : y .log .«regime_end» ≡ lastRegimeEnd
   to-end = eqb-true (y .log .«regime_end») lastRegimeEnd (and-left (eqb (y .log .«regime_end») lastRegimeEnd) (all (startsIn (y .number)) (live (y .log))) fits)
@@ -256,13 +257,12 @@ module _ (y : Year) (v : validYear y ≡ true) where
           paid = within-ok (y .within) (said .within);
         }
 
-    row-is : padded (take (y .«line_count») (y .lines)) ≡ y .lines
+    row-is : padded lineSlots zeroLine (take (y .«line_count») (y .lines)) ≡ y .lines
     row-is =
-        let ls = take (y .«line_count») (y .lines) in
-        let n : length (drop (y .«line_count») (y .lines)) ≡ lineSlots - length ls = length-drop (y .«line_count») (y .lines) ∙ omega (arith, taken, row) in
-        let z : drop (y .«line_count») (y .lines) ≡ replicate (lineSlots - length ls) zeroLine =
-        zero-lines (drop (y .«line_count») (y .lines)) (lined .free) ∙ ap (λ (k : ℕ). replicate k zeroLine) n in
-        ap (λ (r : List Line). ls ++ r) (sym z) ∙ take-append-drop (y .«line_count») (y .lines)
+        let free = drop (y .«line_count») (y .lines) in
+        let n : length free ≡ lineSlots - y .«line_count» = length-drop (y .«line_count») (y .lines) ∙ omega (arith, row) in
+        padded-back lineSlots zeroLine (y .lines) (y .«line_count») row (lined .few)
+        (zero-lines free (lined .free) ∙ ap (λ (k : ℕ). replicate k zeroLine) n)
 
     log-is : holding lastRegimeEnd (live (y .log)) ≡ y .log
     log-is = ap (λ (re : ℕ). holding re (live (y .log))) (sym to-end) ∙ sym (holds (y .log) slotted log-valid)
@@ -287,18 +287,18 @@ module _ (y : Year) (v : validYear y ≡ true) where
 -- ---- what the format may write is a valid year
 module _ (p : Parts) (f : Fine p) where
   abbrev ls : List Line
-  ls = p .1 .1 .1 .1 .1 .0
+  ls = p .1 .1 .0
 
   abbrev es : List Entry
-  es = p .1 .1 .1 .1 .1 .1 .0
+  es = p .1 .1 .1 .0
 
   abbrev free : List Line
   free = replicate (lineSlots - length ls) zeroLine
 
-  entered : (all (startsIn (p .0)) es ≡ true) × (validEntries lastRegimeEnd es ≡ true)
-  entered = entries-good (p .0) [] es (f .logged) refl
+  entered : (all (startsIn (p .0 .0)) es ≡ true) × (validEntries lastRegimeEnd es ≡ true)
+  entered = entries-good (p .0 .0) [] es (f .logged) refl
 
-  lines-made : goodLines (padded ls) (length ls) ≡ true
+  lines-made : goodLines (padded lineSlots zeroLine ls) (length ls) ≡ true
   lines-made =
       and-made (le-leb (length ls) lineSlots (f .few))
       (and-made (ap (all goodLine) (take-append-seam ls free) ∙ lines-good [] ls (f .lined)) (ap (all isZeroLine) (drop-append-seam ls free) ∙ free-lines (lineSlots - length ls)))
@@ -306,14 +306,14 @@ module _ (p : Parts) (f : Fine p) where
   pub parts-valid : validYear (yearOf p) ≡ true
   parts-valid =
       let k = kept-says lastRegimeEnd es (entered .1) in
-      let c = p .1 .1 .1 .1 .0 in
-      let s = factors-small (p .0) c (f .factored) in
+      let c = p .1 .0 in
+      let s = factors-small (p .0 .0) c (f .factored) in
       and-made (holding-valid lastRegimeEnd es refl (f .fewer) k)
       (and-made
       (and-made
-      (and-made (f .year) (and-made (f .pppi) (and-made (f .rate) (and-made (and-right (leb 0 (p .1 .1 .1 .0)) (leb (p .1 .1 .1 .0) 20000) (f .aic)) s))))
-      (and-made (within-small (p .1 .1 .1 .1 .1 .1 .1 .1) (f .paid)) lines-made))
-      (and-made refl (ap (all (startsIn (p .0))) (holding-live lastRegimeEnd es) ∙ entered .0)))
+      (and-made (f .year) (and-made (f .pppi) (and-made (f .rate) (and-made (and-right (leb 0 (p .0 .1 .1 .1)) (leb (p .0 .1 .1 .1) 20000) (f .aic)) s))))
+      (and-made (within-small (p .1 .1 .1 .1 .1) (f .paid)) lines-made))
+      (and-made refl (ap (all (startsIn (p .0 .0))) (holding-live lastRegimeEnd es) ∙ entered .0)))
 
   -- its parts are those that it was made of
   pub parts-back : partsOf (yearOf p) ≡ p
@@ -322,22 +322,10 @@ module _ (p : Parts) (f : Fine p) where
     (
       p .1 .0,
       (
-        p .1 .1 .0,
+        take-append-seam ls free i,
         (
-          p .1 .1 .1 .0,
-          (
-            p .1 .1 .1 .1 .0,
-            (
-              take-append-seam ls free i,
-              (
-                holding-live lastRegimeEnd es i,
-                (
-                  mark-there (p .1 .1 .1 .1 .1 .1 .1 .0) (f .marked) i,
-                  p .1 .1 .1 .1 .1 .1 .1 .1,
-                ),
-              ),
-            ),
-          ),
+          holding-live lastRegimeEnd es i,
+          (mark-there (p .1 .1 .1 .1 .0) (f .marked) i, p .1 .1 .1 .1 .1),
         ),
       ),
     ),

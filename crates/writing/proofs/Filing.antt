@@ -25,9 +25,9 @@ use Rattle.year.specs.declared.Year.{Year}
 use Rattle.year.specs.Year.{goodYearRecord, yearRows}
 use Rattle.codec.specs.Buffers.{Wrote}
 use Rattle.codec.proofs.Buffers.{front}
-use Rattle.filing.specs.Return.{fileable, returnOf, validYear}
+use Rattle.filing.specs.Return.{logFits, fileable, returnOf, validYear}
 use Rattle.writing.specs.declared.Written.the-variants as W
-use Rattle.writing.specs.Written.{filingRows, logFits, WriteGives}
+use Rattle.writing.specs.Written.{filingRows, WriteGives}
 
 -- ---- a test of the first `count` of a row, one by one
 module _ {A : Type 0} (p : A → Bool) (d : A) (row : List A) (count : ℕ) (fits : count ≤ length row) where

@@ -1,7 +1,7 @@
 -- How many bytes each part of a return has. Assumes nothing.
 use mathlib.Core.Path.{_≡_, refl, ap, ap₂, _∙_}
 use mathlib.Core.Bool.{Bool, true, false, cond}
-use mathlib.Core.List.{List, [], _∷_, _++_, append-assoc}
+use mathlib.Core.List.{List, [], _∷_, _++_}
 use Prim.Native.Nat.{ℕ, _+_, _*_, _≤_}
 use native.Mathlib.Omega.{arith}
 use lib.IntN.{ℤ}
@@ -15,19 +15,13 @@ use Rattle.year.specs.declared.Line.{Line}
 use Rattle.year.specs.declared.Year.{Year}
 use Rattle.year.specs.Year.{goodYearRecord, lineSlots}
 use Rattle.year.proofs.Says.{lines-say, year-says}
-use Rattle.codec.specs.Numbers.{bytesOf}
-use Rattle.codec.specs.Fields.{head}
 use Rattle.codec.specs.Format.{fieldOf, texts, unless}
 use Rattle.codec.proofs.Numbers.{bytes-length}
 use Rattle.codec.proofs.Items.{length-head}
-use Rattle.codec.proofs.Lengths.{texts-size}
-use Rattle.filing.specs.Form.{factorsValue, markValue, withinValue, lineValue, entryLayout, entryItem, lineItem, factors, mark, within, form}
-use Rattle.filing.specs.Return.{fileable, returnOf, validYear}
-use Rattle.writing.specs.Written.{anyEntry, logFits, noEntries, noLines, requiredOf}
-
--- a field of one number
-pub number-size : (tag n v : ℕ) → length (head tag n ++ bytesOf n v) ≡ 3 + n
-number-size tag n v = length-append (head tag n) (bytesOf n v) ∙ ap₂ (λ (a b : ℕ). a + b) (length-head tag n) (bytes-length n v)
+use Rattle.codec.proofs.Lengths.{texts-size, sizes-same}
+use Rattle.filing.specs.Form.{factorsValue, markValue, withinValue, lineValue, entryLayout, entryItem, lineItem, factors, mark, within, required, form}
+use Rattle.filing.specs.Return.{logFits, fileable, returnOf, validYear}
+use Rattle.writing.specs.Written.{anyEntry, noEntries, noLines}
 
 -- ---- the fields of a return
 pub line-size : (l : Line) → length (fieldOf 6 lineValue l) ≡ 13
@@ -44,7 +38,7 @@ factors-size number f = simp (length-append, length-head, bytes-length)
 
 mark-size : (n : ℕ) → length (fieldOf 8 markValue n) ≡ 4
 unfolding fieldOf
-mark-size n = number-size 8 1 n
+mark-size n = simp (length-append, length-head, bytes-length)
 
 pub within-size : (z : ℤ) → length (fieldOf 9 withinValue z) ≡ 11
 unfolding fieldOf
@@ -71,12 +65,12 @@ entries-same number before (e ∷ es) = ap (λ (bs : List ℕ). fieldOf 7 entryL
 
 -- the bytes of each
 module _ (y : Year) where
-  abbrev pub required : List ℕ
-  required = requiredOf (y .number) (y .pppi) (y .rate) (y .aic)
+  abbrev pub headed : List ℕ
+  headed = required .write (y .number, (y .pppi, (y .rate, y .aic)))
 
-  pub required-size : length required ≡ 23
+  headed-size : length headed ≡ 23
   unfolding fieldOf
-  required-size = simp (length-append, length-head, bytes-length)
+  headed-size = simp (length-append, length-head, bytes-length)
 
   abbrev pub factored : List ℕ
   factored = factors (y .number) .write (y .pyc, y .pyf)
@@ -93,9 +87,9 @@ module _ (y : Year) where
   abbrev pub paid : List ℕ
   paid = within .write (y .within)
 
-  pub parts-of : returnOf y ≡ required ++ (factored ++ (lined ++ (logged ++ (marked ++ paid))))
+  pub parts-of : returnOf y ≡ headed ++ (factored ++ (lined ++ (logged ++ (marked ++ paid))))
   unfolding returnOf form
-  parts-of = rw (entries-same (y .number) [] (live (y .log))) (simp append-assoc)
+  parts-of = rw (entries-same (y .number) [] (live (y .log)))
 
 -- ---- a valid year has no more lines and outages than slots
 pub log-small : (y : Year) → validLog (y .log) ≡ true → y .log .count ≤ slots
@@ -111,15 +105,17 @@ module _ (y : Year) (valid : validYear y ≡ true) where
       lines-say (y .lines) (y .«line_count») (year-says y record-good .lines) .few
 
   module _ (l : length (y .lines) ≡ lineSlots) where
-    pub lines-size : length (lined y) ≡ 13 * y .«line_count»
+    lines-size : length (lined y) ≡ 13 * y .«line_count»
     lines-size =
-        texts-size lineItem 13 (λ before x. line-size x) noLines (take (y .«line_count») (y .lines))
+        texts-size lineItem (λ before x. line-size x) noLines (take (y .«line_count») (y .lines))
+        ∙ sizes-same lineItem 13 (λ before x. refl) noLines (take (y .«line_count») (y .lines))
         ∙ ap (λ (n : ℕ). 13 * n) (length-take-le (y .«line_count») (y .lines) (omega (arith, few-lines)))
 
   module _ (e : length (y .log .entries) ≡ slots) where
-    pub outages-size : length (logged y) ≡ 13 * y .log .count
+    outages-size : length (logged y) ≡ 13 * y .log .count
     outages-size =
-        texts-size anyEntry 13 (λ before x. entry-size x) noEntries (live (y .log))
+        texts-size anyEntry (λ before x. entry-size x) noEntries (live (y .log))
+        ∙ sizes-same anyEntry 13 (λ before x. refl) noEntries (live (y .log))
         ∙ ap (λ (n : ℕ). 13 * n) (length-take-le (y .log .count) (y .log .entries) (omega (arith, few-outages)))
 
   -- how many bytes its return has
@@ -127,8 +123,8 @@ module _ (y : Year) (valid : validYear y ≡ true) where
       → length (returnOf y) ≡ 23 + (length (factored y) + (13 * y .«line_count» + (13 * y .log .count + (length (marked y) + length (paid y)))))
   year-size l e =
       ap length (parts-of y)
-      ∙ length-append (required y) (factored y ++ (lined y ++ (logged y ++ (marked y ++ paid y))))
-      ∙ ap₂ (λ (m n : ℕ). m + n) (required-size y)
+      ∙ length-append (headed y) (factored y ++ (lined y ++ (logged y ++ (marked y ++ paid y))))
+      ∙ ap₂ (λ (m n : ℕ). m + n) (headed-size y)
       (length-append (factored y) (lined y ++ (logged y ++ (marked y ++ paid y)))
       ∙ ap (λ (n : ℕ). length (factored y) + n)
       (length-append (lined y) (logged y ++ (marked y ++ paid y))

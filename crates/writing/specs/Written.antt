@@ -1,21 +1,19 @@
 -- The number and the length of each case of the answer: document 01, "Numbers a call can give instead".
 use mathlib.Core.Bool.{Bool, cond, not, _&&_}
-use mathlib.Core.List.{List, [], _∷_, _++_}
+use mathlib.Core.List.{List, [], _∷_}
 use mathlib.Core.Path.{_≡_}
 use Prim.Native.Nat.{ℕ, _+_}
-use lib.Dec.{leb, ltb, eqb}
+use lib.Dec.{leb, ltb}
 use lib.IntN.{ℤ}
 use lib.ListN.{length}
-use Rattle.lists.specs.Lists.{all}
 use Rattle.refusals.specs.Refusals.{Rows, numberOf, lowest}
 use Rattle.refusals.specs.declared.Refusal.the-variants.{BrokenLog, BadYear}
 use Rattle.outage.specs.declared.Entry.{Entry}
-use Rattle.outage.specs.declared.Log.{Log}
-use Rattle.outage.specs.Log.{lastRegimeEnd, live, validLog}
+use Rattle.outage.specs.Log.{validLog}
 use Rattle.year.specs.declared.Line.{Line}
 use Rattle.year.specs.declared.Year.{Year}
-use Rattle.codec.specs.Format.{Item, fieldOf, tagged}
-use Rattle.filing.specs.Form.{yearValue, pppiValue, rateValue, aicValue, entryLayout, factors, mark, within, startsIn}
+use Rattle.codec.specs.Format.{Item, tagged}
+use Rattle.filing.specs.Form.{entryLayout, factors, mark, within}
 use Rattle.filing.specs.Return.{fileable, writeRows, writtenLength, writtenBuffer}
 use Rattle.writing.specs.declared.Written.{Written}
 use Rattle.writing.specs.declared.Written.the-variants.{Length, Refused}
@@ -40,15 +38,6 @@ filingRows y = (BrokenLog, not (validLog (y .log))) ∷ (BadYear, not (fileable 
 -- an outage starts from `first` on and before `end`
 abbrev pub startsBetween : ℕ → ℕ → Entry → Bool
 startsBetween first end e = leb first (e .start) && ltb (e .start) end
-
--- "a start outside it or a regime end other than 13,632,480": neither
-abbrev pub logFits : Log → ℕ → Bool
-logFits log number = eqb (log .«regime_end») lastRegimeEnd && all (startsIn number) (live log)
-
--- the four required fields
-abbrev pub requiredOf : ℕ → ℕ → ℕ → ℕ → List ℕ
-requiredOf number pppi rate aic =
-    fieldOf 1 yearValue number ++ (fieldOf 2 pppiValue pppi ++ (fieldOf 3 rateValue rate ++ fieldOf 4 aicValue aic))
 
 -- how many bytes the factors, the mark and the adjustment take
 abbrev pub restSize : ℕ → ℕ → ℕ → Bool → ℤ → ℕ

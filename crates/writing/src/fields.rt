@@ -1,47 +1,20 @@
 // Single fields of a return, written into a buffer with room for them.
 use codec::put;
 use codec::put_head;
+use codec::put_number;
 use codec::unsigned;
 use filing::Factors;
 use filing::Return;
 use money::magnitude;
 ghost use mathlib.Core.Path.{_≡_};
 ghost use mathlib.Core.Bool.{cond};
-ghost use mathlib.Core.List.{_++_};
 ghost use Prim.Native.Nat.{_+_, _*_, _≤_};
 ghost use lib.ListN.{length};
 ghost use Rattle.outage.specs.Log.{slots};
 ghost use Rattle.year.specs.Year.{lineSlots};
-ghost use Rattle.codec.specs.Numbers.{bytesOf};
-ghost use Rattle.codec.specs.Fields.{head};
 ghost use Rattle.codec.specs.Buffers.{Wrote};
 ghost use Rattle.filing.specs.Form.{factors, mark, within};
 ghost use Rattle.writing.specs.Written.{restSize};
-
-// A number of n bytes.
-pub(crate) fn lay(out: &mut [u8], at: usize, n: usize, v: u64) -> usize
-    requires { ⌜ (at + n ≤ length (now out)) × (n ≤ 8) ⌝ }
-    ensures { λ r. ⌜ Wrote (now (out .entry)) at (bytesOf n v) (now (out .exit)) r ⌝ }
-{
-    put(out, at, n, v)
-}
-
-// The tag and the length of a field.
-pub(crate) fn lay_head(out: &mut [u8], at: usize, tag: u8, len: u16) -> usize
-    requires { ⌜ at + 3 ≤ length (now out) ⌝ }
-    ensures { λ r. ⌜ Wrote (now (out .entry)) at (head tag len) (now (out .exit)) r ⌝ }
-{
-    put_head(out, at, tag, len)
-}
-
-// A field of one number.
-pub(crate) fn put_number(out: &mut [u8], at: usize, tag: u8, len: u16, v: u64) -> usize
-    requires { ⌜ (at + (3 + len) ≤ length (now out)) × (len ≤ 8) ⌝ }
-    ensures { λ r. ⌜ Wrote (now (out .entry)) at (head tag len ++ bytesOf len v) (now (out .exit)) r ⌝ }
-{
-    let p = lay_head(out, at, tag, len);
-    lay(out, p, len as usize, v)
-}
 
 // 05: the partial-year factors, unless a return of the year leaves them out.
 pub(crate) fn put_factors(out: &mut [u8], at: usize, year: u8, pyc: u16, pyf: u16) -> usize
@@ -52,9 +25,9 @@ pub(crate) fn put_factors(out: &mut [u8], at: usize, year: u8, pyc: u16, pyf: u1
     if f.are_left_out(year) {
         return at;
     }
-    let p = lay_head(out, at, Return::FACTORS, 4);
-    let q = lay(out, p, 2, pyc as u64);
-    lay(out, q, 2, pyf as u64)
+    let p = put_head(out, at, Return::FACTORS, 4);
+    let q = put(out, p, 2, pyc as u64);
+    put(out, q, 2, pyf as u64)
 }
 
 // 08: the mark of an Exceptional Event.

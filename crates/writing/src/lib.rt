@@ -4,9 +4,9 @@ mod fields;
 mod rows;
 
 use checking::check_filing;
+use codec::put_number;
 use fields::put_factors;
 use fields::put_mark;
-use fields::put_number;
 use fields::put_within;
 use fields::size_of;
 use filing::Return;
@@ -20,8 +20,9 @@ ghost use mathlib.Core.Bool.{true};
 ghost use Prim.Native.Nat.{_≤_};
 ghost use lib.ListN.{length};
 ghost use Rattle.codec.specs.Buffers.{Wrote};
+ghost use Rattle.filing.specs.Form.{required};
 ghost use Rattle.filing.specs.Return.{returnOf, validYear};
-ghost use Rattle.writing.specs.Written.{requiredOf, WriteGives};
+ghost use Rattle.writing.specs.Written.{WriteGives};
 
 // How many bytes were written, or why none.
 pub enum Written {
@@ -31,8 +32,8 @@ pub enum Written {
 
 // The four required fields.
 fn put_required(number: u8, pppi: u32, rate: u32, aic: u16, out: &mut [u8]) -> usize
-    requires { ⌜ 23 ≤ length (now out) ⌝ }
-    ensures { λ r. ⌜ Wrote (now (out .entry)) 0 (requiredOf number pppi rate aic) (now (out .exit)) r ⌝ }
+    requires { ⌜ length (required .write (number, (pppi, (rate, aic)))) ≤ length (now out) ⌝ }
+    ensures { λ r. ⌜ Wrote (now (out .entry)) 0 (required .write (number, (pppi, (rate, aic)))) (now (out .exit)) r ⌝ }
 {
     let a = put_number(out, 0, Return::YEAR, 1, number as u64);
     let b = put_number(out, a, Return::PPPI, 4, pppi as u64);

@@ -2,7 +2,7 @@ use mir.Syntax.{w64}
 use mir.Val.{SFits}
 use mir.ValLaws.{toZ-ofZ}
 use Rattle.filing.specs.Form.{factors, lines, outages, mark, within}
-use Rattle.reading.proofs.Whole.{both-read}
+use Rattle.codec.proofs.Steps.{both-read}
 use borrow.Author.Needs.{needs}
 use Rattle.reading.proofs.body_from.Statement.{statement}
 use Rattle.reading.proofs.body_from.Tie as tie

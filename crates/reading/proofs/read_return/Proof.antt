@@ -1,6 +1,5 @@
-use mathlib.Core.Path.{sym, _∙_}
 use Rattle.filing.specs.Return.{mostBytes}
-use Rattle.reading.proofs.Whole.{too-long, head-read, not-there, gives-refused}
+use Rattle.reading.proofs.Whole.{too-long, not-there, gives-refused}
 use borrow.Author.Needs.{needs}
 use Rattle.reading.proofs.read_return.Statement.{statement}
 use Rattle.reading.proofs.read_return.Tie as tie
@@ -22,7 +21,7 @@ enum-known-h c = search needs
 read-on-requires : tie.Need-read-on-requires
 read-on-requires c κs =
     let o = c .before .before .before in
-    (o .before .if1 .left, head-read (o .before .before .before .args .s .now) (c .before .h .given .0 .0) (sym (c .before .h .given .1) ∙ o .required-of .ensures))
+    (o .before .if1 .left, rw (c .before .h .given .1) at (o .required-of .ensures))
 
 enum-known-place : tie.Need-enum-known-place
 enum-known-place c = search needs
@@ -39,7 +38,7 @@ returns-3 c =
     let place = c .before .before .place in
     let s = o .before .before .before .args .s .now in
     gives-refused s (place .given .0 .0) (c .refused2 .result) (c .refused2 .ensures)
-    (not-there s (o .before .if1 .left) (place .given .0 .0) (sym (place .given .1) ∙ o .required-of .ensures))
+    (not-there s (o .before .if1 .left) (place .given .0 .0) (rw (place .given .1) at (o .required-of .ensures)))
 
 pub read-return-spec : {M : Type 1} → statement M
 read-return-spec =

@@ -1,51 +1,32 @@
-use mathlib.Core.Path.{_≡_, refl}
-use Prim.Native.Nat.{_+_, _*_, _≤_}
-use native.Mathlib.Omega.{arith}
+use mathlib.Core.Path.{_≡_}
 use borrow.Author.Needs.{needs}
-use lib.ListN.{length}
 use mir.Syntax.{w64}
 use mir.Val.{toZ, ofZ}
-use Rattle.lists.proofs.Tests.{held}
 use Rattle.money.proofs.Pounds.{wire}
-use Rattle.writing.proofs.Laying.{moved, year-laid}
-use Rattle.writing.proofs.Sizes.{factored, marked, paid, few-lines, few-outages, lines-size, outages-size, required-size, year-size}
+use Rattle.writing.proofs.Laying.{year-laid, required-room, factors-room, lines-room, log-room, mark-room, within-room}
+use Rattle.writing.proofs.Sizes.{few-lines, few-outages}
 use Rattle.writing.proofs.put_year.Statement.{statement}
 use Rattle.writing.proofs.put_year.Tie as tie
-
-slots : (c : tie.Start) → length (c .args .y .lines) ≡ 64
-slots c = search (needs, held)
-
-entries : (c : tie.Start) → length (c .args .y .log .entries) ≡ 400
-entries c = search (needs, held)
-
--- there is room for all parts
-room : (c : tie.Start) → (let y = c .args .y in 23 + (length (factored y) + (13 * y .«line_count» + (13 * y .log .count + (length (marked y) + length (paid y))))) ≤ length (c .args .out .now))
-room c = omega (arith, c .pre .1, year-size (c .args .y) (c .pre .0) (slots c) (entries c))
 
 -- the adjustment, as it is read back
 back : (c : tie.Start) → toZ w64 (ofZ w64 (c .args .y .within)) ≡ c .args .y .within
 back c = wire (c .args .y .within) (search needs)
 
 put-required-requires : tie.Need-put-required-requires
-put-required-requires c κs = omega (arith, room (c .before .before .before .before))
+put-required-requires c κs = let s = c .before .before .before .before in required-room (s .args .y) (s .args .out .now) (s .pre .1)
 
 put-factors-requires : tie.Need-put-factors-requires
 put-factors-requires c κs =
     let a = c .before .before .before in
     let s = a .before .before .before .before .before in
-    let y = s .args .y in
-    let i = moved (a .put-required .ensures) 23 (required-size y) in
-    omega (arith, room s)
+    factors-room (s .args .y) (s .args .out .now) (s .pre .1) (a .put-required .ensures)
 
 put-lines-requires : tie.Need-put-lines-requires
 put-lines-requires c κs =
     let b = c .before .before .before in
     let a = b .before .before .before .before in
     let s = a .before .before .before .before .before in
-    let y = s .args .y in
-    let i = moved (a .put-required .ensures) 23 (required-size y) in
-    let j = moved (b .put-factors .ensures) (length (factored y)) refl in
-    (omega (arith, room s), few-lines y (s .pre .0))
+    (lines-room (s .args .y) (s .args .out .now) (s .pre .1) (a .put-required .ensures) (b .put-factors .ensures), few-lines (s .args .y) (s .pre .0))
 
 put-outages-requires : tie.Need-put-outages-requires
 put-outages-requires c κs =
@@ -53,11 +34,7 @@ put-outages-requires c κs =
     let b = d .before .before .before .before in
     let a = b .before .before .before .before in
     let s = a .before .before .before .before .before in
-    let y = s .args .y in
-    let i = moved (a .put-required .ensures) 23 (required-size y) in
-    let j = moved (b .put-factors .ensures) (length (factored y)) refl in
-    let k = moved (d .put-lines .ensures) (13 * y .«line_count») (lines-size y (s .pre .0) (slots s)) in
-    (omega (arith, room s), few-outages y (s .pre .0))
+    (log-room (s .args .y) (s .args .out .now) (s .pre .1) (a .put-required .ensures) (b .put-factors .ensures) (d .put-lines .ensures), few-outages (s .args .y) (s .pre .0))
 
 put-mark-requires : tie.Need-put-mark-requires
 put-mark-requires c κs =
@@ -66,12 +43,7 @@ put-mark-requires c κs =
     let b = d .before .before .before .before in
     let a = b .before .before .before .before in
     let s = a .before .before .before .before .before in
-    let y = s .args .y in
-    let i = moved (a .put-required .ensures) 23 (required-size y) in
-    let j = moved (b .put-factors .ensures) (length (factored y)) refl in
-    let k = moved (d .put-lines .ensures) (13 * y .«line_count») (lines-size y (s .pre .0) (slots s)) in
-    let l = moved (e .put-outages .ensures) (13 * y .log .count) (outages-size y (s .pre .0) (entries s)) in
-    omega (arith, room s)
+    mark-room (s .args .y) (s .args .out .now) (s .pre .1) (a .put-required .ensures) (b .put-factors .ensures) (d .put-lines .ensures) (e .put-outages .ensures)
 
 put-within-requires : tie.Need-put-within-requires
 put-within-requires c κs =
@@ -81,13 +53,7 @@ put-within-requires c κs =
     let b = d .before .before .before .before in
     let a = b .before .before .before .before in
     let s = a .before .before .before .before .before in
-    let y = s .args .y in
-    let i = moved (a .put-required .ensures) 23 (required-size y) in
-    let j = moved (b .put-factors .ensures) (length (factored y)) refl in
-    let k = moved (d .put-lines .ensures) (13 * y .«line_count») (lines-size y (s .pre .0) (slots s)) in
-    let l = moved (e .put-outages .ensures) (13 * y .log .count) (outages-size y (s .pre .0) (entries s)) in
-    let m = moved (f .put-mark .ensures) (length (marked y)) refl in
-    rw (back s) (omega (arith, room s))
+    rw (back s) (within-room (s .args .y) (s .args .out .now) (s .pre .1) (a .put-required .ensures) (b .put-factors .ensures) (d .put-lines .ensures) (e .put-outages .ensures) (f .put-mark .ensures))
 
 same-length : tie.Need-same-length
 same-length c = search needs

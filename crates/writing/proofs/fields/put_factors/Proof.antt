@@ -5,11 +5,10 @@ use native.Mathlib.Omega.{arith}
 use borrow.Author.Needs.{needs}
 use lib.ListN.{length}
 use Rattle.codec.specs.Format.{fieldOf}
-use Rattle.codec.proofs.Numbers.{bytes-length}
-use Rattle.codec.proofs.Items.{length-head}
+use Rattle.codec.proofs.Putting.{left-out, put-in}
 use Rattle.filing.specs.Form.{factorsValue, isLeftOut}
-use Rattle.writing.proofs.Laying.{moved, left-out, put-in, factors-laid}
-use Rattle.writing.proofs.Sizes.{some-size, factors-size}
+use Rattle.writing.proofs.Laying.{factors-laid}
+use Rattle.writing.proofs.Sizes.{some-size}
 use Rattle.writing.proofs.fields.put_factors.Statement.{statement}
 use Rattle.writing.proofs.fields.put_factors.Tie as tie
 
@@ -17,11 +16,11 @@ use Rattle.writing.proofs.fields.put_factors.Tie as tie
 written : (c : tie.Else1) → isLeftOut (c .before .before .before .args .year) (c .before .before .before .args .pyc, c .before .before .before .args .pyf) ≡ false
 written c = sym (c .before .are-left-out .ensures) ∙ c .if1 .left
 
-room : (c : tie.Else1) → c .before .before .before .args .at + 7 ≤ length (c .before .before .before .args .out .now)
+room : (c : tie.Else1) → (let a = c .before .before .before .args in a .at + length (fieldOf 5 (factorsValue (a .year)) (a .pyc, a .pyf)) ≤ length (a .out .now))
 room c =
     let s = c .before .before .before in
     let f : ℕ × ℕ = (s .args .pyc, s .args .pyf) in
-    omega (arith, s .pre, some-size (fieldOf 5 (factorsValue (s .args .year)) f) (written c), factors-size (s .args .year) f)
+    omega (arith, s .pre, some-size (fieldOf 5 (factorsValue (s .args .year)) f) (written c))
 
 are-left-out-requires : tie.Need-are-left-out-requires
 are-left-out-requires c κs = search needs
@@ -31,23 +30,14 @@ returns c =
     let s = c .before .before .before in
     left-out _ (s .args .out .now) (s .args .at) (sym (c .before .are-left-out .ensures) ∙ c .if1 .taken)
 
-lay-head-requires : tie.Need-lay-head-requires
-lay-head-requires c κs = omega (arith, room (c .before))
+put-head-requires : tie.Need-put-head-requires
+put-head-requires c κs = search needs
 
-lay-requires : tie.Need-lay-requires
-lay-requires c κs =
-    let h = c .before .before .before in
-    let m = moved (h .lay-head .ensures) 3 (length-head 5 4) in
-    (omega (arith, room (h .before .before)), omega arith)
+put-requires : tie.Need-put-requires
+put-requires c κs = search needs
 
-lay-requires-2 : tie.Need-lay-requires-2
-lay-requires-2 c κs =
-    let l = c .before .before .before in
-    let h = l .before .before .before .before in
-    let s = h .before .before .before .before .before in
-    let m = moved (h .lay-head .ensures) 3 (length-head 5 4) in
-    let k = moved (l .lay .ensures) 2 (bytes-length 2 (s .args .pyc)) in
-    (omega (arith, room (h .before .before)), omega arith)
+put-requires-2 : tie.Need-put-requires-2
+put-requires-2 c κs = search needs
 
 same-length : tie.Need-same-length
 same-length c = search needs
@@ -58,7 +48,8 @@ returns-2 c =
     let l = e .before .before .before .before in
     let h = l .before .before .before .before in
     let s = h .before .before .before .before .before in
-    put-in (written (h .before .before)) (factors-laid (s .args .year) (s .args .pyc, s .args .pyf) (h .lay-head .ensures) (l .lay .ensures) (e .lay2 .ensures))
+    put-in (written (h .before .before))
+    (factors-laid (s .args .year) (s .args .pyc, s .args .pyf) (room (h .before .before)) (h .put-head .ensures) (l .put .ensures) (e .put2 .ensures))
 
 pub put-factors-spec : {M : Type 1} → statement M
 put-factors-spec =
@@ -66,8 +57,8 @@ put-factors-spec =
     (tie.spec
     are-left-out-requires
     returns
-    lay-head-requires
-    lay-requires
-    lay-requires-2
+    put-head-requires
+    put-requires
+    put-requires-2
     same-length
     returns-2)

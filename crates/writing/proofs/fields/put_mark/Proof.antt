@@ -1,12 +1,10 @@
-use native.Mathlib.Omega.{arith}
 use borrow.Author.Needs.{needs}
 use Rattle.writing.proofs.Laying.{mark-left, mark-laid}
-use Rattle.writing.proofs.Sizes.{mark-in}
 use Rattle.writing.proofs.fields.put_mark.Statement.{statement}
 use Rattle.writing.proofs.fields.put_mark.Tie as tie
 
 put-number-requires : tie.Need-put-number-requires
-put-number-requires c κs = (omega (arith, c .before .before .before .pre, mark-in (c .before .if1 .taken)), omega arith)
+put-number-requires c κs = search needs
 
 same-length : tie.Need-same-length
 same-length c = search needs
@@ -14,7 +12,8 @@ same-length c = search needs
 returns : tie.Need-returns
 returns c =
     let p = c .before .before in
-    mark-laid (p .before .before .if1 .taken) (p .put-number .ensures)
+    let t = p .before .before in
+    mark-laid (t .if1 .taken) (t .before .before .pre) (p .put-number .ensures)
 
 returns-2 : tie.Need-returns-2
 returns-2 c =

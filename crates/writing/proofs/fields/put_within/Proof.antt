@@ -9,8 +9,9 @@ use mir.Val.{toZ, ofZ}
 use mir.ValLaws.{toZ-ofZ}
 use Rattle.codec.specs.Format.{fieldOf}
 use Rattle.filing.specs.Form.{withinValue, isNone}
-use Rattle.writing.proofs.Laying.{left-out, put-in, within-laid}
-use Rattle.writing.proofs.Sizes.{some-size, within-size}
+use Rattle.codec.proofs.Putting.{left-out, put-in}
+use Rattle.writing.proofs.Laying.{within-laid}
+use Rattle.writing.proofs.Sizes.{some-size}
 use Rattle.writing.proofs.fields.put_within.Statement.{statement}
 use Rattle.writing.proofs.fields.put_within.Tie as tie
 
@@ -37,11 +38,7 @@ unsigned-requires : tie.Need-unsigned-requires
 unsigned-requires c κs = search needs
 
 put-number-requires : tie.Need-put-number-requires
-put-number-requires c κs =
-    let e = c .before .before in
-    let s = e .before .before .before in
-    let z = s .args .paid in
-    (omega (arith, s .pre, some-size (fieldOf 9 withinValue z) (written e), within-size z), omega arith)
+put-number-requires c κs = search needs
 
 same-length : tie.Need-same-length
 same-length c = search needs
@@ -52,7 +49,9 @@ returns-2 c =
     let u = p .before in
     let e = u .before .before in
     let s = e .before .before .before in
-    put-in (written e) (within-laid (s .args .paid) (u .unsigned .ensures ∙ ap (ofZ w64) (back s)) (p .put-number .ensures))
+    let z = s .args .paid in
+    put-in (written e)
+    (within-laid z (u .unsigned .ensures ∙ ap (ofZ w64) (back s)) (omega (arith, s .pre, some-size (fieldOf 9 withinValue z) (written e))) (p .put-number .ensures))
 
 pub put-within-spec : {M : Type 1} → statement M
 put-within-spec =
