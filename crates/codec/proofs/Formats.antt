@@ -29,7 +29,7 @@ module _ {A : Type 0} (f : Item A) (l : ItemLaws f) where
       let q : drop (f .size x) bs ≡ rest = cc in
       rw (← q, ← p) (l .back bs x b e)
 
-  pub one-lawful : Lawful (one f) (f .tag) (suc (f .tag))
+  pub one-lawful : Lawful (one f) (f .tag) (suc (f .last))
   one-lawful =
       record {
         there = λ a rest h o. rw (l .there a rest h) (ap (got a) (l .after a rest h));
@@ -38,12 +38,12 @@ module _ {A : Type 0} (f : Item A) (l : ItemLaws f) where
       }
 
   module _ (d : A) (is : A → Bool) (is-d : is d ≡ true) (d-is : (a : A) → is a ≡ true → a ≡ d) (not-fine : (a : A) → f .fine a ≡ true → is a ≡ false) where
-    opt-there : (a : A) (t : Bool) → is a ≡ t → (rest : List ℕ) → (t || f .fine a) ≡ true → Over (suc (f .tag)) rest → orElse f d (unless t (f .text a) ++ rest) (f .look (unless t (f .text a) ++ rest)) ≡ got a rest
+    opt-there : (a : A) (t : Bool) → is a ≡ t → (rest : List ℕ) → (t || f .fine a) ≡ true → Over (suc (f .last)) rest → orElse f d (unless t (f .text a) ++ rest) (f .look (unless t (f .text a) ++ rest)) ≡ got a rest
     opt-there a true e rest h o = rw (l .other rest o) (ap (λ (x : A). got x rest) (sym (d-is a e)))
     opt-there a false e rest h o = rw (l .there a rest h) (ap (got a) (l .after a rest h))
 
-    opt-over : (a : A) (t : Bool) → (rest : List ℕ) → Over (suc (f .tag)) rest → Over (f .tag) (unless t (f .text a) ++ rest)
-    opt-over a true rest o = over-le (omega arith) rest o
+    opt-over : (a : A) (t : Bool) → (rest : List ℕ) → Over (suc (f .last)) rest → Over (f .tag) (unless t (f .text a) ++ rest)
+    opt-over a true rest o = over-le (omega (arith, l .tags)) rest o
     opt-over a false rest o = l .over a rest
 
     opt-back : (bs : List ℕ) (o : Option A) → f .look bs ≡ o → (a : A) (rest : List ℕ) → Bytes bs → orElse f d bs o ≡ got a rest → (bs ≡ unless (is a) (f .text a) ++ rest) × ((is a || f .fine a) ≡ true)
@@ -57,7 +57,7 @@ module _ {A : Type 0} (f : Item A) (l : ItemLaws f) where
         let k = l .back bs x b e in
         rw (← q, ← p, not-fine x (k .1)) k
 
-    pub opt-lawful : Lawful (opt f d is) (f .tag) (suc (f .tag))
+    pub opt-lawful : Lawful (opt f d is) (f .tag) (suc (f .last))
     opt-lawful =
         record {
           there = λ a rest h o. opt-there a (is a) refl rest h o;
@@ -100,11 +100,11 @@ module _ {A B : Type 0} (c : Codec A) (d : A → Codec B) (lo mid hi : ℕ) (lc 
         back = λ bs p rest b h. and-back bs b (c .read bs) refl p rest h;
       }
 
-module _ {A : Type 0} (f : List A → Item A) (t : ℕ) (l : (before : List A) → ItemLaws (f before)) (same : (before : List A) → f before .tag ≡ t) where
-  past : (before : List A) (rest : List ℕ) → Over (suc t) rest → f before .look rest ≡ none
-  past before rest o = l before .other rest (subst (λ (k : ℕ). Over (suc k) rest) (sym (same before)) o)
+module _ {A : Type 0} (f : List A → Item A) (t u : ℕ) (l : (before : List A) → ItemLaws (f before)) (same : (before : List A) → f before .tag ≡ t) (same-last : (before : List A) → f before .last ≡ u) where
+  past : (before : List A) (rest : List ℕ) → Over (suc u) rest → f before .look rest ≡ none
+  past before rest o = l before .other rest (subst (λ (k : ℕ). Over (suc k) rest) (sym (same-last before)) o)
 
-  scan-there : (n : ℕ) (before ys : List A) (rest : List ℕ) → length ys ≤ n → allFine f before ys ≡ true → Over (suc t) rest → scan f n before (texts f before ys ++ rest) ≡ got (before ++ ys) rest
+  scan-there : (n : ℕ) (before ys : List A) (rest : List ℕ) → length ys ≤ n → allFine f before ys ≡ true → Over (suc u) rest → scan f n before (texts f before ys ++ rest) ≡ got (before ++ ys) rest
   unfolding scan texts allFine
   scan-there zero before [] rest h a o = rw (append-nil before)
   scan-there (suc n) before [] rest h a o = rw (past before rest o, append-nil before)
@@ -115,9 +115,9 @@ module _ {A : Type 0} (f : List A → Item A) (t : ℕ) (l : (before : List A) �
       let r = texts f (before ++ (x ∷ [])) ys ++ rest in
       rw (append-assoc (f before .text x) (texts f (before ++ (x ∷ [])) ys) rest, l before .there x r hx, l before .after x r hx, scan-there n (before ++ (x ∷ [])) ys rest (omega arith) hy o, append-snoc before x ys)
 
-  fields-over : (before ys : List A) (rest : List ℕ) → Over (suc t) rest → Over t (texts f before ys ++ rest)
+  fields-over : (before ys : List A) (rest : List ℕ) → Over (suc u) rest → Over t (texts f before ys ++ rest)
   unfolding texts
-  fields-over before [] rest o = over-le (omega arith) rest o
+  fields-over before [] rest o = over-le (omega (arith, l before .tags, same before, same-last before)) rest o
   fields-over before (x ∷ ys) rest o =
       rw (append-assoc (f before .text x) (texts f (before ++ (x ∷ [])) ys) rest)
       (subst (λ (k : ℕ). Over k (f before .text x ++ (texts f (before ++ (x ∷ [])) ys ++ rest))) (same before) (l before .over x (texts f (before ++ (x ∷ [])) ys ++ rest)))
@@ -162,7 +162,7 @@ module _ {A : Type 0} (f : List A → Item A) (t : ℕ) (l : (before : List A) �
   many-back : (n : ℕ) (bs : List ℕ) (all : List A) (rest : List ℕ) → Added n [] bs all rest → (bs ≡ texts f [] all ++ rest) × ((leb (length all) n && allFine f [] all) ≡ true)
   many-back n bs all rest a = rw (a .all-is, le-leb (length (a .new)) n (a .few)) (a .is, a .fine)
 
-  pub many-lawful : (n : ℕ) → Lawful (many f n) t (suc t)
+  pub many-lawful : (n : ℕ) → Lawful (many f n) t (suc u)
   many-lawful n =
       record {
         there = λ a rest h o. scan-there n [] a rest (leb-true _ _ (and-left (leb (length a) n) (allFine f [] a) h)) (and-right (leb (length a) n) (allFine f [] a) h) o;

@@ -30,7 +30,8 @@ pub record ItemLaws {A : Type 0} (f : Item A) : Type 0 where
   pub after : (a : A) (rest : List ℕ) → f .fine a ≡ true → drop (f .size a) (f .text a ++ rest) ≡ rest
   pub there : (a : A) (rest : List ℕ) → f .fine a ≡ true → f .look (f .text a ++ rest) ≡ some a
   pub back : (bs : List ℕ) (a : A) → Bytes bs → f .look bs ≡ some a → (bs ≡ f .text a ++ drop (f .size a) bs) × (f .fine a ≡ true)
-  pub other : (bs : List ℕ) → Over (suc (f .tag)) bs → f .look bs ≡ none
+  pub tags : f .tag ≤ f .last
+  pub other : (bs : List ℕ) → Over (suc (f .last)) bs → f .look bs ≡ none
   pub over : (a : A) (rest : List ℕ) → Over (f .tag) (f .text a ++ rest)
   -- a field found is whole
   pub taken : (bs : List ℕ) (a : A) → f .look bs ≡ some a → (isWhole (take (f .size a) bs) ≡ true) × (f .size a ≤ length bs)
@@ -132,4 +133,4 @@ module _ {A : Type 0} (tag : ℕ) (v : Value A) (short : v .len < 65536) (l : Va
 
   pub tagged-laws : ItemLaws (tagged tag v)
   unfolding field
-  tagged-laws = record { after = tagged-after; there = tagged-there; back = λ bs a b h. tagged-back bs a b (framed tag (v .len) bs) refl h; other = tagged-other; over = tagged-over; taken = λ bs a h. tagged-taken bs a (framed tag (v .len) bs) refl h; alike = tagged-alike }
+  tagged-laws = record { tags = le-refl tag; after = tagged-after; there = tagged-there; back = λ bs a b h. tagged-back bs a b (framed tag (v .len) bs) refl h; other = tagged-other; over = tagged-over; taken = λ bs a h. tagged-taken bs a (framed tag (v .len) bs) refl h; alike = tagged-alike }

@@ -15,3 +15,6 @@ pub mod Steps
 pub mod Rows
 pub mod Found
 pub mod Putting
+pub mod Either
+pub mod Every
+pub mod Shapes

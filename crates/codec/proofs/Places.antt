@@ -68,7 +68,7 @@ pub record Numbered {A : Type 0} (c : Codec A) (k : ℕ) : Type 0 where
   pub only : (bs : List ℕ) (why : ℕ) (rest : List ℕ) → c .read bs ≡ stuck why rest → why ≡ k
 
 -- ---- whole fields
-no-field : (bs : List ℕ) → Whole bs bs
+pub no-field : (bs : List ℕ) → Whole bs bs
 unfolding joined
 no-field bs = record { fields = []; whole = refl; is = refl }
 
@@ -103,18 +103,18 @@ same-before (f ∷ fs) r q h s =
     }
 
 -- what `alike` says, of bytes that an equation gives
-alike-at : {A : Type 0} (read : List ℕ → Res A) (w r q bs : List ℕ) → (restOf (read (w ++ r)) ≡ r → read (w ++ q) ≡ moved (read (w ++ r)) q) → bs ≡ w ++ r → restOf (read bs) ≡ r → read (w ++ q) ≡ moved (read bs) q
+pub alike-at : {A : Type 0} (read : List ℕ → Res A) (w r q bs : List ℕ) → (restOf (read (w ++ r)) ≡ r → read (w ++ q) ≡ moved (read (w ++ r)) q) → bs ≡ w ++ r → restOf (read bs) ≡ r → read (w ++ q) ≡ moved (read bs) q
 alike-at read w r q bs k e h = rw e (k (rw e at h))
 
 -- ---- one field
 module _ {A : Type 0} (f : Item A) (l : ItemLaws f) where
   -- the field found, and whole fields after it
-  found-more : (bs rest : List ℕ) (a : A) → f .look bs ≡ some a → Whole (drop (f .size a) bs) rest → Whole bs rest
+  pub found-more : (bs rest : List ℕ) (a : A) → f .look bs ≡ some a → Whole (drop (f .size a) bs) rest → Whole bs rest
   found-more bs rest a e w =
       subst (λ (m : List ℕ). Whole m rest) (take-append-drop (f .size a) bs) (field-more (take (f .size a) bs) (drop (f .size a) bs) rest (l .taken bs a e .0) w)
 
   -- a field found is found whatever comes behind it
-  found-alike : (w r u : List ℕ) (a : A) → f .look (w ++ r) ≡ some a → drop (f .size a) (w ++ r) ≡ u ++ r → (q : List ℕ) → (f .look (w ++ q) ≡ some a) × (drop (f .size a) (w ++ q) ≡ u ++ q)
+  pub found-alike : (w r u : List ℕ) (a : A) → f .look (w ++ r) ≡ some a → drop (f .size a) (w ++ r) ≡ u ++ r → (q : List ℕ) → (f .look (w ++ q) ≡ some a) × (drop (f .size a) (w ++ q) ≡ u ++ q)
   found-alike w r u a e h q =
       let g = take (f .size a) (w ++ r) in
       let t = l .taken (w ++ r) a e in
@@ -125,7 +125,7 @@ module _ {A : Type 0} (f : Item A) (l : ItemLaws f) where
       (ap (f .look) x ∙ l .alike g (u ++ q) (u ++ r) (t .0) ∙ ap (f .look) (sym s) ∙ e, ap (drop (f .size a)) x ∙ drop-at g (u ++ q) (f .size a) n)
 
   -- where none is found before a field, none is found before the same field
-  none-alike : (w r q : List ℕ) → SameField r q → f .look (w ++ r) ≡ none → w ++ r ≡ r → (f .look (w ++ q) ≡ none) × (w ++ q ≡ q)
+  pub none-alike : (w r q : List ℕ) → SameField r q → f .look (w ++ r) ≡ none → w ++ r ≡ r → (f .look (w ++ q) ≡ none) × (w ++ q ≡ q)
   none-alike w r q s e h =
       let k : w ≡ [] = append-cancel-right w [] r h in
       let x : w ++ q ≡ q = ap (λ (m : List ℕ). m ++ q) k in

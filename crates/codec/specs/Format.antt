@@ -1,11 +1,11 @@
 -- A format is a term: values of a fixed number of bytes, fields with a tag, and fields in order. Each part says how it is
 -- read, how it is written, and what may be written, so that reading and writing are one definition.
-use mathlib.Core.Bool.{Bool, true, false, _&&_, _||_}
+use mathlib.Core.Bool.{Bool, true, false, cond, _&&_, _||_}
 use mathlib.Core.List.{List, [], _∷_, _++_}
 use mathlib.Core.Option.{Option, some, none}
 use mathlib.Core.Path.{_≡_}
 use Prim.Native.Nat.{ℕ, zero, suc, _+_, _≤_}
-use lib.Dec.{leb}
+use lib.Dec.{leb, eqb}
 use lib.IntN.{ℤ, natAbs}
 use lib.ListN.{length, take, drop}
 use mir.Syntax.{w64}
@@ -73,9 +73,20 @@ such test v = record {
   fine = λ a. v .fine a && test a;
 }
 
+-- a value with a number beside it that is always k and is not written
+abbrev pub beside : {A : Type 0} → ℕ → Value A → Value (A × ℕ)
+beside k v = record {
+  len = v .len;
+  get = λ l. mapO (λ a. (a, k)) (v .get l);
+  put = λ p. v .put (p .0);
+  fine = λ p. v .fine (p .0) && eqb (p .1) k;
+}
+
 -- ---- fields
+-- its tag, or the lowest and the highest of those that it may have
 pub record Item (A : Type 0) : Type 0 where
   pub tag : ℕ
+  pub last : ℕ
   pub look : List ℕ → Option A
   pub size : A → ℕ
   pub text : A → List ℕ
@@ -89,7 +100,23 @@ fieldOf tag v a = head tag (v .len) ++ v .put a
 
 -- a field of this tag: found where it is whole, of the right length, and its value is allowed
 abbrev pub tagged : {A : Type 0} → ℕ → Value A → Item A
-tagged tag v = record { tag = tag; look = field tag v; size = λ a. 3 + v .len; text = fieldOf tag v; fine = v .fine }
+tagged tag v = record { tag = tag; last = tag; look = field tag v; size = λ a. 3 + v .len; text = fieldOf tag v; fine = v .fine }
+
+-- a field that is one of two: the first where the test holds of its value, else the second. Two lengths under one tag, or two
+-- tags next to each other
+abbrev pub firstOf : {A : Type 0} → Option A → Option A → Option A
+firstOf none o = o
+firstOf (some a) o = some a
+
+abbrev pub either : {A : Type 0} → (A → Bool) → Item A → Item A → Item A
+either is f g = record {
+  tag = f .tag;
+  last = g .last;
+  look = λ bs. firstOf (f .look bs) (g .look bs);
+  size = λ a. cond (is a) (f .size a) (g .size a);
+  text = λ a. cond (is a) (f .text a) (g .text a);
+  fine = λ a. cond (is a) (f .fine a) (g .fine a);
+}
 
 -- ---- fields in order
 -- what a reader makes of bytes: a value and the bytes that are left, or a refusal's number and the bytes where it stands
@@ -150,6 +177,28 @@ allFine f before (a ∷ l) = f before .fine a && allFine f (before ++ (a ∷ [])
 
 abbrev pub many : {A : Type 0} → (List A → Item A) → ℕ → Codec (List A)
 many f n = record { read = scan f n []; write = texts f []; ok = λ l. leb (length l) n && allFine f [] l }
+
+-- as many as there are: each that is found keeps the rule after those before it, which gives 0, or it is refused where it stands by
+-- the number that the rule gives
+abbrev pub ruled : {A : Type 0} → List ℕ → ℕ → Res (List A) → Res (List A)
+ruled bs zero go = go
+ruled bs (suc k) go = stuck (suc k) bs
+
+unfoldable pub scanBy : {A : Type 0} → (List A → Item A) → (List A → A → ℕ) → ℕ → List A → List ℕ → Res (List A)
+scanBy f rule zero before bs = got before bs
+scanBy f rule (suc n) before bs =
+    more before bs (λ a. ruled bs (rule before a) (scanBy f rule n (before ++ (a ∷ [])) (drop (f before .size a) bs))) (f before .look bs)
+
+unfoldable pub allKeep : {A : Type 0} → (List A → A → ℕ) → List A → List A → Bool
+allKeep rule before [] = true
+allKeep rule before (a ∷ l) = eqb (rule before a) 0 && allKeep rule (before ++ (a ∷ [])) l
+
+abbrev pub every : {A : Type 0} → (List A → Item A) → (List A → A → ℕ) → Codec (List A)
+every f rule = record { read = λ bs. scanBy f rule (length bs) [] bs; write = texts f []; ok = λ l. allFine f [] l && allKeep rule [] l }
+
+-- required, or "absent means" d, as the test says
+abbrev pub requiredIf : {A : Type 0} → Bool → Item A → Item A → A → (A → Bool) → Codec A
+requiredIf must f g d is = cond must (one f) (opt g d is)
 
 -- one after the other: what follows can depend on what was read first
 abbrev pub pairUp : {A B : Type 0} → A → Res B → Res (A × B)

@@ -1,0 +1,211 @@
+-- The laws of fields that repeat as often as they are there, each of which a rule can refuse by a number of its own: what is
+-- written is read back, what is read is what would be written, and where a reading stops. Assumes nothing.
+use mathlib.Core.Path.{_≡_, refl, sym, ap, subst, _∙_}
+use mathlib.Core.Bool.{true, _&&_}
+use mathlib.Core.List.{List, [], _∷_, _++_, append-assoc, append-nil, append-cancel-right}
+use mathlib.Core.Option.{Option, some, none}
+use Prim.Native.Nat.{ℕ, zero, suc, _+_, _≤_, _<_}
+use native.Mathlib.Nat.{le-refl}
+use native.Mathlib.Omega.{arith}
+use lib.Dec.{eqb}
+use lib.ListN.{length, take, drop, length-append, length-drop}
+use lib.Seq.{append-snoc}
+use borrow.Author.Tests.{eq-eqb, eqb-true}
+use Rattle.lists.proofs.Tests.{and-left, and-right, and-made}
+use Rattle.codec.specs.Numbers.{Bytes}
+use Rattle.codec.specs.Fields.{isWhole, joined}
+use Rattle.codec.specs.Format.{Item, Res, got, stuck, more, ruled, scanBy, texts, allFine, allKeep, every}
+use Rattle.codec.proofs.Values.{bytes-drop}
+use Rattle.codec.proofs.Items.{Over, over-le, ItemLaws}
+use Rattle.codec.proofs.Fields.{no-empty}
+use Rattle.codec.proofs.Formats.{Lawful}
+use Rattle.codec.proofs.Places.{restOf, moved, Whole, SameField, Begun, Placed, no-field, found-more, found-alike, none-alike}
+
+-- a whole field has bytes
+some-bytes : (n : ℕ) (bs : List ℕ) → isWhole (take n bs) ≡ true → 0 < n
+unfolding isWhole
+some-bytes zero bs h = absurd (let z : _≡_ {A = ℕ} 0 1 = cc in omega arith)
+some-bytes (suc n) bs h = omega arith
+
+module _ {A : Type 0} (f : List A → Item A) (rule : List A → A → ℕ) (l : (before : List A) → ItemLaws (f before)) where
+  -- those that follow a field found
+  abbrev onward : ℕ → List A → List ℕ → A → Res (List A)
+  onward n before bs a = scanBy f rule n (before ++ (a ∷ [])) (drop (f before .size a) bs)
+
+  abbrev step : ℕ → List A → List ℕ → Option A → Res (List A)
+  step n before bs o = more before bs (λ a. ruled bs (rule before a) (onward n before bs a)) o
+
+  -- fewer bytes are left behind a field
+  pub shorter : (before : List A) (bs : List ℕ) (a : A) → f before .look bs ≡ some a → length (drop (f before .size a) bs) < length bs
+  shorter before bs a e =
+      let t = l before .taken bs a e in
+      omega (arith, some-bytes (f before .size a) bs (t .0), t .1, length-drop (f before .size a) bs)
+
+  -- ---- what is passed
+  record Passed (before : List A) (bs : List ℕ) (r : Res (List A)) : Type 0 where
+    new : List A
+    fine : allFine f before new ≡ true
+    keep : allKeep rule before new ≡ true
+    is : bs ≡ texts f before new ++ restOf r
+    all-is : (all : List A) (rest : List ℕ) → r ≡ got all rest → all ≡ before ++ new
+
+  none-passed : (before : List A) (bs : List ℕ) → Passed before bs (got before bs)
+  unfolding texts allFine allKeep
+  none-passed before bs =
+      record { new = []; fine = refl; keep = refl; is = refl; all-is = λ all rest h. let p : before ≡ all = cc in sym p ∙ sym (append-nil before) }
+
+  refused-passed : (before : List A) (bs : List ℕ) (k : ℕ) → Passed before bs (stuck k bs)
+  unfolding texts allFine allKeep
+  refused-passed before bs k =
+      record { new = []; fine = refl; keep = refl; is = refl; all-is = λ all rest h. absurd (let z : _≡_ {A = ℕ} 0 1 = cc in omega arith) }
+
+  one-passed : (n : ℕ) (before : List A) (bs : List ℕ) (x : A) → Bytes bs → f before .look bs ≡ some x
+      → Passed (before ++ (x ∷ [])) (drop (f before .size x) bs) (onward n before bs x) → (k : ℕ) → rule before x ≡ k → Passed before bs (ruled bs k (onward n before bs x))
+  unfolding texts allFine allKeep
+  one-passed n before bs x b e i (suc k) h = refused-passed before bs (suc k)
+  one-passed n before bs x b e i zero h =
+      let m = l before .back bs x b e in
+      record {
+        new = x ∷ i .new;
+        fine = and-made (m .1) (i .fine);
+        keep = and-made (eq-eqb (rule before x) 0 h) (i .keep);
+        is = m .0 ∙ ap (λ (r : List ℕ). f before .text x ++ r) (i .is) ∙ sym (append-assoc (f before .text x) (texts f (before ++ (x ∷ [])) (i .new)) (restOf (onward n before bs x)));
+        all-is = λ all rest g. i .all-is all rest g ∙ append-snoc before x (i .new);
+      }
+
+  step-passed : (n : ℕ) (before : List A) (bs : List ℕ) → Bytes bs → ((x : A) → Passed (before ++ (x ∷ [])) (drop (f before .size x) bs) (onward n before bs x))
+      → (o : Option A) → f before .look bs ≡ o → Passed before bs (step n before bs o)
+  step-passed n before bs b ih none e = none-passed before bs
+  step-passed n before bs b ih (some x) e = one-passed n before bs x b e (ih x) (rule before x) refl
+
+  passed : (n : ℕ) (before : List A) (bs : List ℕ) → Bytes bs → Passed before bs (scanBy f rule n before bs)
+  unfolding scanBy
+  passed zero before bs b = none-passed before bs
+  passed (suc n) before bs b =
+      step-passed n before bs b (λ x. passed n (before ++ (x ∷ [])) (drop (f before .size x) bs) (bytes-drop (f before .size x) bs b)) (f before .look bs) refl
+
+  -- ---- whole fields
+  one-fields : (n : ℕ) (before : List A) (bs : List ℕ) (x : A) → f before .look bs ≡ some x → Whole (drop (f before .size x) bs) (restOf (onward n before bs x))
+      → (k : ℕ) → Whole bs (restOf (ruled bs k (onward n before bs x)))
+  one-fields n before bs x e w zero = found-more (f before) (l before) bs (restOf (onward n before bs x)) x e w
+  one-fields n before bs x e w (suc k) = no-field bs
+
+  step-fields : (n : ℕ) (before : List A) (bs : List ℕ) → ((x : A) → Whole (drop (f before .size x) bs) (restOf (onward n before bs x)))
+      → (o : Option A) → f before .look bs ≡ o → Whole bs (restOf (step n before bs o))
+  step-fields n before bs ih none e = no-field bs
+  step-fields n before bs ih (some x) e = one-fields n before bs x e (ih x) (rule before x)
+
+  by-fields : (n : ℕ) (before : List A) (bs : List ℕ) → Whole bs (restOf (scanBy f rule n before bs))
+  unfolding scanBy
+  by-fields zero before bs = no-field bs
+  by-fields (suc n) before bs = step-fields n before bs (λ x. by-fields n (before ++ (x ∷ [])) (drop (f before .size x) bs)) (f before .look bs) refl
+
+  -- ---- what follows the field at which it stops does not matter, nor how many more could be read
+  module _ (n m : ℕ) (before : List A) (w r q : List ℕ) (s : SameField r q) (small : length (w ++ r) ≤ suc n) (less : length (w ++ q) ≤ suc m)
+      (ih : (a : A) (u : List ℕ) → length (u ++ r) ≤ n → length (u ++ q) ≤ m → restOf (scanBy f rule n (before ++ (a ∷ [])) (u ++ r)) ≡ r
+      → scanBy f rule m (before ++ (a ∷ [])) (u ++ q) ≡ moved (scanBy f rule n (before ++ (a ∷ [])) (u ++ r)) q) where
+    one-alike : (a : A) → f before .look (w ++ r) ≡ some a → (k : ℕ) → restOf (ruled (w ++ r) k (onward n before (w ++ r) a)) ≡ r
+        → (f before .look (w ++ q) ≡ some a) × (ruled (w ++ q) k (onward m before (w ++ q) a) ≡ moved (ruled (w ++ r) k (onward n before (w ++ r) a)) q)
+    one-alike a e (suc k) h =
+        let c : w ≡ [] = append-cancel-right w [] r h in
+        let x : w ++ q ≡ q = ap (λ (t : List ℕ). t ++ q) c in
+        (ap (f before .look) (x ∙ s .so) ∙ l before .alike (s .first) (s .other) (s .after) (s .whole) ∙ ap (f before .look) (sym (h ∙ s .is)) ∙ e, ap (stuck (suc k)) x)
+    one-alike a e zero h =
+        let d = drop (f before .size a) (w ++ r) in
+        let x = by-fields n (before ++ (a ∷ [])) d in
+        let u = joined (x .fields) in
+        let y : d ≡ u ++ r = x .is ∙ ap (λ (t : List ℕ). u ++ t) h in
+        let k = found-alike (f before) (l before) w r u a e y q in
+        let v : length (u ++ r) ≤ n = omega (arith, ap length y, shorter before (w ++ r) a e) in
+        let z : length (u ++ q) ≤ m = omega (arith, ap length (k .1), shorter before (w ++ q) a (k .0)) in
+        (k .0, ap (scanBy f rule m (before ++ (a ∷ []))) (k .1) ∙ ih a u v z (ap (λ (t : List ℕ). restOf (scanBy f rule n (before ++ (a ∷ [])) t)) (sym y) ∙ h) ∙ ap (λ (t : List ℕ). moved (scanBy f rule n (before ++ (a ∷ [])) t) q) (sym y))
+
+    step-alike : (o : Option A) → f before .look (w ++ r) ≡ o → restOf (step n before (w ++ r) o) ≡ r → step m before (w ++ q) (f before .look (w ++ q)) ≡ moved (step n before (w ++ r) o) q
+    step-alike none e h = let k = none-alike (f before) (l before) w r q s e h in rw (k .0) (ap (got before) (k .1))
+    step-alike (some a) e h = let k = one-alike a e (rule before a) h in rw (k .0) (k .1)
+
+  no-bytes : (w r q : List ℕ) → SameField r q → length (w ++ r) ≤ 0 → ⊥
+  no-bytes w r q s h = no-empty (s .first) (s .after) (s .whole) (empty (s .first ++ s .after) (omega (arith, h, length-append w r, ap length (s .is))))
+    where
+      empty : (bs : List ℕ) → length bs ≤ 0 → bs ≡ []
+      empty [] h = refl
+      empty (x ∷ bs) h = absurd (omega arith)
+
+  other-field : {r q : List ℕ} → SameField r q → SameField q r
+  other-field s = record { first = s .first; whole = s .whole; after = s .other; other = s .after; is = s .so; so = s .is }
+
+  by-alike : (n m : ℕ) (before : List A) (w r q : List ℕ) → SameField r q → length (w ++ r) ≤ n → length (w ++ q) ≤ m → restOf (scanBy f rule n before (w ++ r)) ≡ r
+      → scanBy f rule m before (w ++ q) ≡ moved (scanBy f rule n before (w ++ r)) q
+  unfolding scanBy
+  by-alike zero m before w r q s small less h = absurd (no-bytes w r q s small)
+  by-alike (suc n) zero before w r q s small less h = absurd (no-bytes w q r (other-field s) less)
+  by-alike (suc n) (suc m) before w r q s small less h =
+      step-alike n m before w r q s small less (λ a u. by-alike n m (before ++ (a ∷ [])) u r q s) (f before .look (w ++ r)) refl h
+
+  every-begun : (bs rest : List ℕ) (k : ℕ) → (r : Res (List A)) → r ≡ stuck k rest → Passed [] bs r → Begun (every f rule) bs rest
+  every-begun bs rest k r e p =
+      record {
+        front = texts f [] (p .new);
+        is = p .is ∙ ap (λ (x : Res (List A)). texts f [] (p .new) ++ restOf x) e;
+        value = p .new;
+        ok = and-made (p .fine) (p .keep);
+        more = [];
+        begins = sym (append-nil (texts f [] (p .new)));
+      }
+
+  pub every-placed : Placed (every f rule)
+  unfolding allFine allKeep
+  every-placed =
+      record {
+        fields = λ bs. by-fields (length bs) [] bs;
+        alike = λ w r q s h. by-alike (length (w ++ r)) (length (w ++ q)) [] w r q s (le-refl (length (w ++ r))) (le-refl (length (w ++ q))) h;
+        any = [];
+        any-ok = refl;
+        begun = λ bs k rest b h. every-begun bs rest k (scanBy f rule (length bs) [] bs) h (passed (length bs) [] bs b);
+      }
+
+  -- ---- what is written is read back
+  module _ (t u : ℕ) (same : (before : List A) → f before .tag ≡ t) (same-last : (before : List A) → f before .last ≡ u) where
+    past : (before : List A) (rest : List ℕ) → Over (suc u) rest → f before .look rest ≡ none
+    past before rest o = l before .other rest (subst (λ (k : ℕ). Over (suc k) rest) (sym (same-last before)) o)
+
+    by-there : (n : ℕ) (before ys : List A) (rest : List ℕ) → length (texts f before ys ++ rest) ≤ n → allFine f before ys ≡ true → allKeep rule before ys ≡ true → Over (suc u) rest
+        → scanBy f rule n before (texts f before ys ++ rest) ≡ got (before ++ ys) rest
+    unfolding scanBy texts allFine allKeep
+    by-there zero before [] rest h a k o = rw (append-nil before)
+    by-there (suc n) before [] rest h a k o = rw (past before rest o, append-nil before)
+    by-there zero before (x ∷ ys) rest h a k o =
+        let r = texts f (before ++ (x ∷ [])) ys ++ rest in
+        let hx : f before .fine x ≡ true = and-left (f before .fine x) (allFine f (before ++ (x ∷ [])) ys) a in
+        let e : (f before .text x ++ texts f (before ++ (x ∷ [])) ys) ++ rest ≡ f before .text x ++ r = append-assoc (f before .text x) (texts f (before ++ (x ∷ [])) ys) rest in
+        absurd (omega (arith, h, ap length e, shorter before (f before .text x ++ r) x (l before .there x r hx)))
+    by-there (suc n) before (x ∷ ys) rest h a k o =
+        let r = texts f (before ++ (x ∷ [])) ys ++ rest in
+        let hx : f before .fine x ≡ true = and-left (f before .fine x) (allFine f (before ++ (x ∷ [])) ys) a in
+        let hy : allFine f (before ++ (x ∷ [])) ys ≡ true = and-right (f before .fine x) (allFine f (before ++ (x ∷ [])) ys) a in
+        let kx : rule before x ≡ 0 = eqb-true (rule before x) 0 (and-left (eqb (rule before x) 0) (allKeep rule (before ++ (x ∷ [])) ys) k) in
+        let ky : allKeep rule (before ++ (x ∷ [])) ys ≡ true = and-right (eqb (rule before x) 0) (allKeep rule (before ++ (x ∷ [])) ys) k in
+        let e : (f before .text x ++ texts f (before ++ (x ∷ [])) ys) ++ rest ≡ f before .text x ++ r = append-assoc (f before .text x) (texts f (before ++ (x ∷ [])) ys) rest in
+        let d : drop (f before .size x) (f before .text x ++ r) ≡ r = l before .after x r hx in
+        let v : length r ≤ n = omega (arith, h, ap length e, ap length d, shorter before (f before .text x ++ r) x (l before .there x r hx)) in
+        rw (e, l before .there x r hx, kx, d, by-there n (before ++ (x ∷ [])) ys rest v hy ky o, append-snoc before x ys)
+
+    by-over : (before ys : List A) (rest : List ℕ) → Over (suc u) rest → Over t (texts f before ys ++ rest)
+    unfolding texts
+    by-over before [] rest o = over-le (omega (arith, l before .tags, same before, same-last before)) rest o
+    by-over before (x ∷ ys) rest o =
+        rw (append-assoc (f before .text x) (texts f (before ++ (x ∷ [])) ys) rest)
+        (subst (λ (k : ℕ). Over k (f before .text x ++ (texts f (before ++ (x ∷ [])) ys ++ rest))) (same before) (l before .over x (texts f (before ++ (x ∷ [])) ys ++ rest)))
+
+    by-back : (bs : List ℕ) (all : List A) (rest : List ℕ) → (r : Res (List A)) → r ≡ got all rest → Passed [] bs r → (bs ≡ texts f [] all ++ rest) × ((allFine f [] all && allKeep rule [] all) ≡ true)
+    by-back bs all rest r e p =
+        let a : all ≡ p .new = p .all-is all rest e in
+        rw a (p .is ∙ ap (λ (x : Res (List A)). texts f [] (p .new) ++ restOf x) e, and-made (p .fine) (p .keep))
+
+    pub every-lawful : Lawful (every f rule) t (suc u)
+    every-lawful =
+        record {
+          there = λ a rest h o. by-there (length (texts f [] a ++ rest)) [] a rest (le-refl (length (texts f [] a ++ rest))) (and-left (allFine f [] a) (allKeep rule [] a) h) (and-right (allFine f [] a) (allKeep rule [] a) h) o;
+          over = λ a rest h o. by-over [] a rest o;
+          back = λ bs a rest b h. by-back bs a rest (scanBy f rule (length bs) [] bs) h (passed (length bs) [] bs b);
+        }

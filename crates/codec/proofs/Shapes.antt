@@ -1,0 +1,114 @@
+-- Small formats of the shapes that the parts allow, with their laws: a value with a last byte that is left out where it is 1;
+-- pieces under two tags, each kept or refused by a rule; a field that is required by what was read before it. Assumes nothing.
+use mathlib.Core.Path.{_≡_, refl}
+use mathlib.Core.Bool.{Bool, true, false, not, _&&_}
+use mathlib.Core.List.{List}
+use mathlib.Core.Option.{some}
+use Prim.Native.Nat.{ℕ, suc, _<_}
+use native.Mathlib.Nat.{le-refl}
+use native.Mathlib.Omega.{arith}
+use lib.Dec.{eqb}
+use borrow.Author.Tests.{eqb-true, ne-eqb}
+use Rattle.lists.proofs.Tests.{and-left, not-yes}
+use Rattle.codec.specs.Format.{Value, num, pair, such, beside, Item, field, tagged, either, Codec, malformed, one, many, every, requiredIf, both}
+use Rattle.codec.proofs.Values.{ValueLaws, num-laws, pair-laws, such-laws}
+use Rattle.codec.proofs.Items.{ItemLaws, tagged-laws}
+use Rattle.codec.proofs.Found.{such-passes}
+use Rattle.codec.proofs.Formats.{Lawful, one-lawful, opt-lawful, many-lawful, both-lawful}
+use Rattle.codec.proofs.Places.{Placed, Numbered, one-placed, opt-placed, many-placed, both-placed, one-numbered, opt-numbered, both-numbered}
+use Rattle.codec.proofs.Either.{beside-laws, lengths-apart, tags-apart, either-laws, required-if-lawful, required-if-placed, required-if-numbered}
+use Rattle.codec.proofs.Every.{every-lawful, every-placed}
+
+-- ---- a last byte that is left out where it is 1; what may stand can depend on those before it
+module _ {A : Type 0} (tag : ℕ) (v : Value A) (l : ValueLaws v) (short : v .len < 65000) (may : List (A × ℕ) → A × ℕ → Bool) where
+  abbrev isPlain : A × ℕ → Bool
+  isPlain p = eqb (p .1) 1
+
+  abbrev plain : List (A × ℕ) → Value (A × ℕ)
+  plain before = such (λ p. isPlain p && may before p) (beside 1 v)
+
+  abbrev caused : List (A × ℕ) → Value (A × ℕ)
+  caused before = such (λ p. not (isPlain p) && may before p) (pair v (num 1 1 255))
+
+  abbrev oneByte : List (A × ℕ) → Item (A × ℕ)
+  oneByte before = either isPlain (tagged tag (plain before)) (tagged tag (caused before))
+
+  one-byte-laws : (before : List (A × ℕ)) → ItemLaws (oneByte before)
+  one-byte-laws before =
+      either-laws isPlain (tagged tag (plain before)) (tagged tag (caused before))
+      (tagged-laws tag (plain before) (omega arith) (such-laws (λ p. isPlain p && may before p) (beside 1 v) (beside-laws 1 v l)))
+      (tagged-laws tag (caused before) (omega arith) (such-laws (λ p. not (isPlain p) && may before p) (pair v (num 1 1 255)) (pair-laws v (num 1 1 255) l (num-laws 1 1 255 (omega arith)))))
+      (le-refl tag) (le-refl tag)
+      (λ bs p e. and-left (isPlain p) (may before p) (such-passes tag (beside 1 v) bs (λ p. isPlain p && may before p) p e))
+      (λ bs p e. not-yes (isPlain p) (and-left (not (isPlain p)) (may before p) (such-passes tag (pair v (num 1 1 255)) bs (λ p. not (isPlain p) && may before p) p e)))
+      (λ p rest h. lengths-apart tag (plain before) (caused before) (omega arith) (λ e. omega arith) p rest)
+
+  pub two-lengths-lawful : (n : ℕ) → Lawful (many oneByte n) tag (suc tag)
+  two-lengths-lawful n = many-lawful oneByte tag tag one-byte-laws (λ before. refl) (λ before. refl) n
+
+  pub two-lengths-placed : (n : ℕ) → Placed (many oneByte n)
+  two-lengths-placed n = many-placed oneByte one-byte-laws n
+
+-- ---- pieces under a tag and the next, 0 and 1 beside them, as many as there are
+module _ {A : Type 0} (tag : ℕ) (v : Value A) (l : ValueLaws v) (short : v .len < 65536) (rule : List (A × ℕ) → A × ℕ → ℕ) where
+  abbrev marked : ℕ → Value (A × ℕ)
+  marked k = such (λ p. eqb (p .1) k) (beside k v)
+
+  abbrev piece : List (A × ℕ) → Item (A × ℕ)
+  piece before = either (λ p. eqb (p .1) 0) (tagged tag (marked 0)) (tagged (suc tag) (marked 1))
+
+  marked-is : (t k : ℕ) (bs : List ℕ) (p : A × ℕ) → field t (marked k) bs ≡ some p → eqb (p .1) k ≡ true
+  marked-is t k bs p e = such-passes t (beside k v) bs (λ p. eqb (p .1) k) p e
+
+  piece-laws : (before : List (A × ℕ)) → ItemLaws (piece before)
+  piece-laws before =
+      either-laws (λ p. eqb (p .1) 0) (tagged tag (marked 0)) (tagged (suc tag) (marked 1))
+      (tagged-laws tag (marked 0) short (such-laws (λ p. eqb (p .1) 0) (beside 0 v) (beside-laws 0 v l)))
+      (tagged-laws (suc tag) (marked 1) short (such-laws (λ p. eqb (p .1) 1) (beside 1 v) (beside-laws 1 v l)))
+      (omega arith) (omega arith)
+      (marked-is tag 0)
+      (λ bs p e. ne-eqb (p .1) 0 (λ z. omega (arith, z, eqb-true (p .1) 1 (marked-is (suc tag) 1 bs p e))))
+      (λ p rest h. tags-apart tag (suc tag) (marked 0) (marked 1) (λ e. omega arith) p rest)
+
+  pub two-tags-lawful : Lawful (every piece rule) tag (suc (suc tag))
+  two-tags-lawful = every-lawful piece rule piece-laws tag (suc tag) (λ before. refl) (λ before. refl)
+
+  pub two-tags-placed : Placed (every piece rule)
+  two-tags-placed = every-placed piece rule piece-laws
+
+-- ---- a number first, by which the field after it is required or may be absent for 0
+abbrev number : ℕ → ℕ → Item ℕ
+number tag lo = tagged tag (num 1 lo 255)
+
+number-laws : (tag lo : ℕ) → ItemLaws (number tag lo)
+number-laws tag lo = tagged-laws tag (num 1 lo 255) (omega arith) (num-laws 1 lo 255 (omega arith))
+
+zero-apart : (k : ℕ) → num 1 1 255 .fine k ≡ true → eqb k 0 ≡ false
+zero-apart k h = ne-eqb k 0 (λ e. let f : num 1 1 255 .fine 0 ≡ true = rw e at h in let z : _≡_ {A = ℕ} 0 1 = cc in omega arith)
+
+module _ (must : ℕ → Bool) where
+  abbrev second : ℕ → Codec ℕ
+  second n = requiredIf (must n) (number 2 0) (number 2 1) 0 (λ k. eqb k 0)
+
+  second-lawful : (n : ℕ) → Lawful (second n) 2 3
+  second-lawful n =
+      required-if-lawful (number 2 0) (number 2 1) 0 (λ k. eqb k 0) (must n) (one-lawful (number 2 0) (number-laws 2 0))
+      (opt-lawful (number 2 1) (number-laws 2 1) 0 (λ k. eqb k 0) refl (λ k h. eqb-true k 0 h) zero-apart)
+
+  second-placed : (n : ℕ) → Placed (second n)
+  second-placed n =
+      required-if-placed (number 2 0) (number 2 1) 0 (λ k. eqb k 0) (must n) (one-placed (number 2 0) (number-laws 2 0) 1 refl)
+      (opt-placed (number 2 1) (number-laws 2 1) 0 (λ k. eqb k 0) refl)
+
+  pub required-by-lawful : Lawful (both (one (number 1 1)) second) 1 3
+  required-by-lawful = both-lawful (one (number 1 1)) second 1 2 3 (one-lawful (number 1 1) (number-laws 1 1)) second-lawful
+
+  pub required-by-placed : Placed (both (one (number 1 1)) second)
+  required-by-placed =
+      both-placed (one (number 1 1)) second 1 2 (one-lawful (number 1 1) (number-laws 1 1)) (one-placed (number 1 1) (number-laws 1 1) 1 refl) second-placed
+
+  -- it gives 13 alone
+  pub required-by-numbered : Numbered (both (one (number 1 1)) second) malformed
+  required-by-numbered =
+      both-numbered (one (number 1 1)) second (one-numbered (number 1 1) (number-laws 1 1))
+      (λ n. required-if-numbered (number 2 0) (number 2 1) 0 (λ k. eqb k 0) (must n) (one-numbered (number 2 0) (number-laws 2 0)) (opt-numbered (number 2 1) (number-laws 2 1) 0 (λ k. eqb k 0)))
