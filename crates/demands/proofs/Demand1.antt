@@ -13,7 +13,8 @@ use Rattle.refusals.specs.Refusals.{numberOf, answerNumber}
 use Rattle.refusals.proofs.Laws.{same-refusal, beside-refused}
 use Rattle.calendar.specs.Years.{yearStart, yearEnd, yearRows, minutesNumber, firstFigure, endFigure}
 use Rattle.calendar.proofs.Only.{one-minutes}
-use Rattle.outage.specs.Log.{lastRegimeEnd, live, holding, filed, without, lostEnergy}
+use Rattle.entries.specs.Row.{filed, without}
+use Rattle.outage.specs.Log.{lastRegimeEnd, live, logWith, holding, lostEnergy}
 use Rattle.outage.specs.Calls.{emptyRows, enterRows, cancelRows, lostRows, lostNumber, lostFigure}
 use Rattle.outage.proofs.Only.{one-empty, one-enter, one-cancel, one-lost}
 use Rattle.outage.proofs.Only as logs
@@ -92,7 +93,7 @@ demand-1 = record {
   refile = one-refile;
   print = one-print;
   enter-checks = λ l e r g v. g .0 ∙ rw v refl;
-  cancel-checks = λ l start r g v. g .0 ∙ rw v refl;
+  cancel-checks = λ l key r g v. g .0 ∙ rw v refl;
   lost-checks = λ l a b r g v. g .0 ∙ rw v refl;
   availability-checks = λ book l number r g. (λ b. g .0 ∙ rw b refl, λ b v. g .0 ∙ rw (b, v) refl);
   target-checks = λ book l number r g. (λ b. g .0 ∙ rw b refl, λ b v. g .0 ∙ rw (b, v) refl);
@@ -103,8 +104,8 @@ demand-1 = record {
   write-checks = λ y out r o g v. g .0 ∙ rw v refl;
   numbered = numbers;
   fixed = same-refusal;
-  enter-refused = λ l e r g n. beside-refused (enterRows l e) (answerNumber (r .answer)) (r .log) (holding (l .«regime_end») (filed e (live l))) l (g .0) (g .1) n;
-  cancel-refused = λ l start r g n. beside-refused (cancelRows l start) (answerNumber (r .answer)) (r .log) (holding (l .«regime_end») (without start (live l))) l (g .0) (g .1) n;
+  enter-refused = λ l e r g n. beside-refused (enterRows l e) (answerNumber (r .answer)) (r .log) (logWith l (filed e (live l))) l (g .0) (g .1) n;
+  cancel-refused = λ l key r g n. beside-refused (cancelRows l key) (answerNumber (r .answer)) (r .log) (logWith l (without key (live l))) l (g .0) (g .1) n;
   empty-refused = λ regimeEnd r g n. beside-refused (emptyRows regimeEnd) (answerNumber (r .answer)) (r .log) (holding regimeEnd []) (holding lastRegimeEnd []) (g .0) (g .1) n;
   write-refused = λ y out r o g n. (
     beside-refused (writeRows y (length out)) (writtenNumber r) o (returnOf y ++ drop (length (returnOf y)) out) out (g .0) (g .2) n,

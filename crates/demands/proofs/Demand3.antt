@@ -11,15 +11,16 @@ use Rattle.lists.proofs.Lists.{sum-same}
 use Rattle.refusals.proofs.Laws.{all-clear}
 use Rattle.calendar.specs.declared.YearMinutes.{YearMinutes}
 use Rattle.calendar.specs.Years.{goodYear, yearRows, minutesNumber, firstFigure, endFigure, MinutesGives}
-use Rattle.outage.specs.declared.Entry.{Entry}
+use Rattle.entries.specs.declared.Entry.{Entry}
+use Rattle.entries.specs.Row.{covers, lostIn}
 use Rattle.outage.specs.declared.Log.{Log}
 use Rattle.outage.specs.declared.Logged.{Logged}
 use Rattle.outage.specs.declared.losing.LostEnergy.{LostEnergy}
 use Rattle.outage.specs.declared.losing.LostEnergy.the-variants.{MwMinutes}
-use Rattle.outage.specs.Log.{mostMw, covers, validLog, live, lostIn, lostEnergy}
+use Rattle.outage.specs.Log.{mostMw, validLog, live, lostEnergy}
 use Rattle.outage.specs.Calls.{EmptyGives, lostFigure, LostGives}
 use Rattle.outage.proofs.Holding.{live-length}
-use Rattle.outage.proofs.Minutes.{shares-says, shares-made}
+use Rattle.entries.proofs.Minutes.{shares-says, shares-made}
 use Rattle.demands.specs.Log.{Turn, RanFrom, logAfter, sameEntry, acceptedNotCancelled}
 use Rattle.demands.specs.Demand3.{Demand3}
 use Rattle.demands.proofs.Lost.{by-minutes, parts-add, year-lost, year-most}

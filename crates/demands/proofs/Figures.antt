@@ -11,9 +11,10 @@ use Rattle.refusals.specs.Refusals.{lowest}
 use Rattle.refusals.specs.declared.Refusal.the-variants.{BadBook, BrokenLog, BadYear, TooLarge, BadPeriod}
 use Rattle.money.specs.Rounding.{upOf, roundDiv, onMagnitude, roundZ}
 use Rattle.calendar.specs.Years.{daysTo, yearStart, yearEnd}
+use Rattle.entries.specs.Row.{validRow}
 use Rattle.outage.specs.declared.Log.{Log}
-use Rattle.outage.specs.Log.{validRow, validLog, lastRegimeEnd, live, mostMw}
-use Rattle.outage.proofs.Minutes.{by-minutes, energyOf}
+use Rattle.outage.specs.Log.{validLog, lastRegimeEnd, live, mostMw}
+use Rattle.entries.proofs.Minutes.{by-minutes, energyOf}
 use Rattle.year.specs.Year.{goodYearRecord}
 use Rattle.levels.specs.Book.{publishedBook, goodBook, bookHolds, targetOf}
 use Rattle.levels.specs.Availability.{availabilityIn, meetsTarget, availabilityRows, targetGiven, TargetGives}

@@ -11,12 +11,13 @@ use Rattle.lists.proofs.Lists.{sum-cut}
 use Rattle.calendar.specs.declared.YearMinutes.{YearMinutes}
 use Rattle.calendar.specs.Years.{yearStart, yearEnd, goodYear, lastYear, firstFigure, endFigure, MinutesGives}
 use Rattle.calendar.proofs.Laws.{year-within}
+use Rattle.entries.specs.Row.{lostIn}
 use Rattle.outage.specs.declared.Log.{Log}
 use Rattle.outage.specs.declared.losing.LostEnergy.{LostEnergy}
 use Rattle.outage.specs.declared.losing.LostEnergy.the-variants.{MwMinutes}
-use Rattle.outage.specs.Log.{slots, mostMw, firstRegimeEnd, lastRegimeEnd, validLog, live, lostIn, lostEnergy}
+use Rattle.outage.specs.Log.{mostMw, firstRegimeEnd, lastRegimeEnd, validLog, live, lostEnergy}
 use Rattle.outage.specs.Calls.{LostGives}
-use Rattle.outage.proofs.Holding.{valid-says}
+use Rattle.outage.proofs.Holding.{valid-end}
 use Rattle.outage.proofs.Only.{only-lost}
 use Rattle.outage.proofs.Most.{valid-stretch, lost-given}
 
@@ -43,7 +44,7 @@ module _ (log : Log) (v : validLog log ≡ true) where
     year-inside : (yearStart number ≤ yearEnd number (log .«regime_end»)) × (yearEnd number (log .«regime_end») ≤ log .«regime_end»)
     year-inside =
         let re = log .«regime_end» in
-        let from-first = leb-true firstRegimeEnd re (and-left (leb firstRegimeEnd re) (leb re lastRegimeEnd) (valid-says slots (log .entries) (log .count) re v .end)) in
+        let from-first = leb-true firstRegimeEnd re (and-left (leb firstRegimeEnd re) (leb re lastRegimeEnd) (valid-end log v)) in
         year-within re number (omega arith) (leb-true 1 number (and-left (leb 1 number) (leb number lastYear) good)) (leb-true number lastYear (and-right (leb 1 number) (leb number lastYear) good))
 
     pub year-lost : (r : LostEnergy) → LostGives log (firstFigure y) (endFigure y) r → r ≡ MwMinutes (lostEnergy (firstFigure y) (endFigure y) (live log))

@@ -10,17 +10,20 @@ use lib.ListN.{length, getD, drop, length-drop}
 use lib.Seq.{getD-take, getD-drop}
 use Rattle.lists.proofs.Tests.{and-left, and-right}
 use Rattle.lists.proofs.Lists.{all-at, pairwise-at}
-use Rattle.outage.specs.declared.Entry.{Entry}
+use Rattle.entries.specs.declared.Entry.{Entry}
 use Rattle.outage.specs.declared.Log.{Log}
-use Rattle.outage.specs.Log.{slots, BothCover, goodEntry, sharesMinute, isZero, zeroEntry, live}
-use Rattle.outage.proofs.Order.{good-span, apart-says}
-use Rattle.outage.proofs.Holding.{Valid, parts, live-length, zero-is}
+use Rattle.entries.specs.Row.{BothCover, goodEntry, notBefore, sharesMinute, isZero, zeroEntry}
+use Rattle.outage.specs.Log.{slots, rowOf, live}
+use Rattle.entries.proofs.Order.{good-span, in-turn, apart-says}
+use Rattle.entries.proofs.Keys.{ahead, keys-ascend}
+use Rattle.entries.proofs.Rows.{Valid, valid-says, zero-is}
+use Rattle.outage.proofs.Holding.{live-length}
 use Rattle.demands.specs.Log.{slot}
 use Rattle.demands.proofs.Keeping.{Sound}
 
 module _ (log : Log) (o : Sound log) where
-  whole : Valid slots (log .entries) (log .count) (log .«regime_end»)
-  whole = parts log (o .rows) (o .valid)
+  whole : Valid (rowOf log)
+  whole = valid-says (rowOf log) (o .valid)
 
   -- a slot before the count is an entry
   at-live : (i : ℕ) → i < log .count → getD (live log) i zeroEntry ≡ slot log i
@@ -36,14 +39,16 @@ module _ (log : Log) (o : Sound log) where
   ends-before : (i j : ℕ) → i < j → j < log .count → slot log i .end ≤ slot log j .start
   ends-before i j h k =
       let m : i < log .count = omega arith in
-      let r = pairwise-at (λ (x y : Entry). leb (x .start) (y .start)) zeroEntry (live log) (whole .kept .order) i j h (count-live j k) in
+      let r = pairwise-at notBefore zeroEntry (live log) (whole .kept .order) i j h (count-live j k) in
       let q = pairwise-at (λ (x y : Entry). not (sharesMinute x y)) zeroEntry (live log) (whole .kept .shared) i j h (count-live j k) in
       apart-says (slot log i) (slot log j) (good-span (log .«regime_end») (slot log i) (good-at i m)) (good-span (log .«regime_end») (slot log j) (good-at j k))
-      (leb-true (slot log i .start) (slot log j .start) (rw (at-live i m, at-live j k) at r))
+      (in-turn (slot log i) (slot log j) (rw (at-live i m, at-live j k) at r))
       (rw (at-live i m, at-live j k) at q)
 
   pub in-order : (i j : ℕ) → i < j → j < log .count → slot log i .start < slot log j .start
-  in-order i j h k = omega (arith, ends-before i j h k, good-span (log .«regime_end») (slot log i) (good-at i (omega arith)))
+  in-order i j h k =
+      let r = pairwise-at ahead zeroEntry (live log) (keys-ascend (log .«regime_end») (live log) (whole .kept)) i j h (count-live j k) in
+      ltb-true (slot log i .start) (slot log j .start) (rw (at-live i (omega arith), at-live j k) at r)
 
   pub none-shared : (i j : ℕ) → i < j → j < log .count → BothCover (slot log i) (slot log j) → ⊥
   none-shared i j h k b =

@@ -11,16 +11,19 @@ use Rattle.lists.specs.Lists.{total}
 use Rattle.lists.proofs.Tests.{or-false}
 use Rattle.lists.proofs.Lists.{total-append, total-keep}
 use Rattle.refusals.specs.Refusals.{lowest, answerNumber}
-use Rattle.outage.specs.declared.Entry.{Entry}
+use Rattle.entries.specs.declared.Entry.{Entry}
 use Rattle.outage.specs.declared.Log.{Log}
 use Rattle.outage.specs.declared.Logged.{Logged}
-use Rattle.outage.specs.Log.{goodRegimeEnd, lastRegimeEnd, live, holding, filed, startsAt, without}
+use Rattle.entries.specs.declared.Key.{Key}
+use Rattle.entries.specs.Row.{filed, hasKey, without}
+use Rattle.entries.proofs.Keeping.{total-filed}
+use Rattle.outage.specs.Log.{goodRegimeEnd, lastRegimeEnd, live, holding}
 use Rattle.outage.specs.Calls.{EmptyGives, emptyLog, enterRows, enterLog, cancelRows, cancelLog}
 use Rattle.demands.specs.Log.{Call, entering, cancelling, Promised, Turn, logOf, RanFrom, logAfter, Event, put, takenOut, happened, cancelledBy, cancelledSince, standing}
 use Rattle.outage.proofs.Holding.{holding-live, holding-valid}
 use Rattle.demands.specs.Runs.{eventsOf}
 use Rattle.demands.proofs.Runs.{run-keeps}
-use Rattle.demands.proofs.Keeping.{Sound, total-filed, entered-sound, cancelled-sound}
+use Rattle.demands.proofs.Keeping.{Sound, entered-sound, cancelled-sound}
 
 -- ---- one event more
 since-more : (e : Entry) (since : List Event) (event : Event) → cancelledSince e (since ++ event ∷ []) ≡ (cancelledSince e since || cancelledBy e event)
@@ -43,13 +46,13 @@ standing-put (put x ∷ before) e = by (cancelledSince x before) (since-more x b
     by true c h = rw (c, h)
     by false c h = rw (c, h)
 
--- a start taken out leaves the others standing
-pub standing-out : (before : List Event) (s : ℕ) → standing (before ++ takenOut s ∷ []) ≡ without s (standing before)
+-- a key taken out leaves the others standing
+pub standing-out : (before : List Event) (s : Key) → standing (before ++ takenOut s ∷ []) ≡ without s (standing before)
 standing-out [] s = refl
 standing-out (takenOut t ∷ before) s = standing-out before s
-standing-out (put x ∷ before) s = by (cancelledSince x before) (startsAt s x) refl (since-more x before (takenOut s)) (standing-out before s)
+standing-out (put x ∷ before) s = by (cancelledSince x before) (hasKey s x) refl (since-more x before (takenOut s)) (standing-out before s)
   where
-    by : (b c : Bool) → startsAt s x ≡ c → cancelledSince x (before ++ takenOut s ∷ []) ≡ (b || c) → standing (before ++ takenOut s ∷ []) ≡ without s (standing before)
+    by : (b c : Bool) → hasKey s x ≡ c → cancelledSince x (before ++ takenOut s ∷ []) ≡ (b || c) → standing (before ++ takenOut s ∷ []) ≡ without s (standing before)
         → cond (cancelledSince x (before ++ takenOut s ∷ [])) (standing (before ++ takenOut s ∷ [])) (x ∷ standing (before ++ takenOut s ∷ [])) ≡ without s (cond b (standing before) (x ∷ standing before))
     by true c e d h = rw (d, h)
     by false true e d h = rw (d, h, e)
@@ -83,16 +86,16 @@ module _ (regimeEnd : ℕ) (log : Log) (before : List Event) (k : Stands regimeE
       }
   entered-by e (suc n) h = rw (not-done (lowest (enterRows log e)) n h) nothing-done
 
-  cancelled-by : (s n : ℕ) → lowest (cancelRows log s) ≡ n → Stands regimeEnd (cancelLog log s) (before ++ cond (eqb (lowest (cancelRows log s)) 0) (takenOut s ∷ []) [])
+  cancelled-by : (s : Key) (n : ℕ) → lowest (cancelRows log s) ≡ n → Stands regimeEnd (cancelLog log s) (before ++ cond (eqb (lowest (cancelRows log s)) 0) (takenOut s ∷ []) [])
   cancelled-by s zero h =
       rw (eq-eqb (lowest (cancelRows log s)) 0 h)
       record {
         sound = cancelled-sound log (k .sound) s;
         same = λ f.
             ap (total f) (holding-live (log .«regime_end») (without s (live log)))
-            ∙ total-keep f (λ (x : Entry). not (startsAt s x)) (live log)
-            ∙ k .same (λ (x : Entry). cond (not (startsAt s x)) (f x) 0)
-            ∙ sym (ap (total f) (standing-out before s) ∙ total-keep f (λ (x : Entry). not (startsAt s x)) (standing before));
+            ∙ total-keep f (λ (x : Entry). not (hasKey s x)) (live log)
+            ∙ k .same (λ (x : Entry). cond (not (hasKey s x)) (f x) 0)
+            ∙ sym (ap (total f) (standing-out before s) ∙ total-keep f (λ (x : Entry). not (hasKey s x)) (standing before));
         end = k .end;
       }
   cancelled-by s (suc n) h = rw (not-done (lowest (cancelRows log s)) n h) nothing-done

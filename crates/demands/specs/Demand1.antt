@@ -11,7 +11,8 @@ use Rattle.refusals.specs.Refusals.{numberOf, answerNumber}
 use Rattle.refusals.specs.Answers.{One}
 use Rattle.calendar.specs.declared.YearMinutes.{YearMinutes}
 use Rattle.calendar.specs.Years.{minutesNumber, firstFigure, endFigure, MinutesGives}
-use Rattle.outage.specs.declared.Entry.{Entry}
+use Rattle.entries.specs.declared.Entry.{Entry}
+use Rattle.entries.specs.declared.Key.{Key}
 use Rattle.outage.specs.declared.Log.{Log}
 use Rattle.outage.specs.declared.Logged.{Logged}
 use Rattle.outage.specs.declared.losing.LostEnergy.{LostEnergy}
@@ -57,7 +58,7 @@ pub record Demand1 : Type 0 where
   pub empty : (regimeEnd : ℕ) → One (EmptyGives regimeEnd)
   pub check-log : (log : Log) → One (logs.CheckGives log)
   pub enter : (log : Log) (e : Entry) → One (EnterGives log e)
-  pub cancel : (log : Log) (start : ℕ) → One (CancelGives log start)
+  pub cancel : (log : Log) (key : Key) → One (CancelGives log key)
   pub lost : (log : Log) (a b : ℕ) → One (LostGives log a b)
   pub minutes : (number regimeEnd : ℕ) → One (MinutesGives number regimeEnd)
   pub check-year : (y : Year) → One (years.CheckGives y)
@@ -78,7 +79,7 @@ pub record Demand1 : Type 0 where
   pub print : (bs : List ℕ) → Bytes bs → One (PrintGives bs)
   -- ---- "It checks what it is handed": a broken log is 1, a bad book 8 before it, a year or amounts out of range 9
   pub enter-checks : (log : Log) (e : Entry) (r : Logged) → EnterGives log e r → validLog log ≡ false → answerNumber (r .answer) ≡ 1
-  pub cancel-checks : (log : Log) (start : ℕ) (r : Logged) → CancelGives log start r → validLog log ≡ false → answerNumber (r .answer) ≡ 1
+  pub cancel-checks : (log : Log) (key : Key) (r : Logged) → CancelGives log key r → validLog log ≡ false → answerNumber (r .answer) ≡ 1
   pub lost-checks : (log : Log) (a b : ℕ) (r : LostEnergy) → LostGives log a b r → validLog log ≡ false → lostNumber r ≡ 1
   pub availability-checks : (book : Book) (log : Log) (number : ℕ) (r : Availability) → AvailabilityGives book log number r → BookThenLog book log (availabilityNumber r)
   pub target-checks : (book : Book) (log : Log) (number : ℕ) (r : Target) → TargetGives book log number r → BookThenLog book log (targetNumber r)
@@ -92,7 +93,7 @@ pub record Demand1 : Type 0 where
   pub fixed : (why other : Refusal) → numberOf why ≡ numberOf other → why ≡ other
   -- ---- "gives back the log it got", to the last slot
   pub enter-refused : (log : Log) (e : Entry) (r : Logged) → EnterGives log e r → (answerNumber (r .answer) ≡ 0 → ⊥) → r .log ≡ log
-  pub cancel-refused : (log : Log) (start : ℕ) (r : Logged) → CancelGives log start r → (answerNumber (r .answer) ≡ 0 → ⊥) → r .log ≡ log
+  pub cancel-refused : (log : Log) (key : Key) (r : Logged) → CancelGives log key r → (answerNumber (r .answer) ≡ 0 → ⊥) → r .log ≡ log
   -- where it was handed none, the empty log to 13,632,480
   pub empty-refused : (regimeEnd : ℕ) (r : Logged) → EmptyGives regimeEnd r → (answerNumber (r .answer) ≡ 0 → ⊥) → r .log ≡ holding lastRegimeEnd []
   -- ---- "writes no byte to a lent buffer"; the length is 0

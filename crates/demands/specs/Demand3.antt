@@ -10,11 +10,12 @@ use lib.ListN.{length}
 use Rattle.lists.specs.Lists.{sumFrom}
 use Rattle.calendar.specs.declared.YearMinutes.{YearMinutes}
 use Rattle.calendar.specs.Years.{minutesNumber, firstFigure, endFigure, MinutesGives}
-use Rattle.outage.specs.declared.Entry.{Entry}
+use Rattle.entries.specs.declared.Entry.{Entry}
+use Rattle.entries.specs.Row.{sharesMinute, BothCover, lostIn}
 use Rattle.outage.specs.declared.Log.{Log}
 use Rattle.outage.specs.declared.losing.LostEnergy.{LostEnergy}
 use Rattle.outage.specs.declared.losing.LostEnergy.the-variants.{MwMinutes}
-use Rattle.outage.specs.Log.{slots, mostMw, goodRegimeEnd, lastRegimeEnd, zeroEntry, sharesMinute, BothCover, validLog, live, lostIn}
+use Rattle.outage.specs.Log.{slots, mostMw, goodRegimeEnd, lastRegimeEnd, zeroEntry, validLog, live}
 use Rattle.outage.specs.Calls.{lostFigure, LostGives}
 use Rattle.demands.specs.Log.{timesIn, slot}
 

@@ -6,22 +6,23 @@ use lib.Dec.{eqb}
 use lib.ListN.{getD}
 use Rattle.lists.specs.Lists.{total}
 use Rattle.refusals.specs.Refusals.{answerNumber}
-use Rattle.outage.specs.declared.Entry.{Entry}
+use Rattle.entries.specs.declared.Entry.{Entry}
 use Rattle.outage.specs.declared.Log.{Log}
 use Rattle.outage.specs.declared.Logged.{Logged}
-use Rattle.outage.specs.Log.{zeroEntry, startsAt}
+use Rattle.entries.specs.declared.Key.{Key}
+use Rattle.entries.specs.Row.{zeroEntry, hasKey}
 use Rattle.outage.specs.Calls.{EnterGives, CancelGives}
 use Rattle.demands.specs.Runs.{Ran, after, eventsOf}
 
 -- ---- the calls, with any numbers at all
 pub data Call : Type 0 where
   entering : Entry → Call
-  cancelling : ℕ → Call
+  cancelling : Key → Call
 
 -- what a call promises of its result: the contracts of `enter` and `cancel`
 abbrev pub Promised : Log → Call → Logged → Type 0
 Promised log (entering e) r = EnterGives log e r
-Promised log (cancelling start) r = CancelGives log start r
+Promised log (cancelling key) r = CancelGives log key r
 
 -- a call and its result
 abbrev pub Turn : Type 0
@@ -40,20 +41,20 @@ logAfter log turns = after logOf log turns
 -- ---- the events
 pub data Event : Type 0 where
   put : Entry → Event
-  takenOut : ℕ → Event
+  takenOut : Key → Event
 
--- an accepted entering puts its entry in, an accepted cancelling takes a start out, a refused call does nothing
+-- an accepted entering puts its entry in, an accepted cancelling takes a key out, a refused call does nothing
 abbrev pub done : Call → List Event
 done (entering e) = put e ∷ []
-done (cancelling start) = takenOut start ∷ []
+done (cancelling key) = takenOut key ∷ []
 
 abbrev pub happened : Turn → List Event
 happened turn = cond (eqb (answerNumber (turn .1 .answer)) 0) (done (turn .0)) []
 
--- an entry is cancelled where an event takes its start out
+-- an entry is cancelled where an event takes its key out
 abbrev pub cancelledBy : Entry → Event → Bool
 cancelledBy e (put x) = false
-cancelledBy e (takenOut start) = startsAt start e
+cancelledBy e (takenOut key) = hasKey key e
 
 abbrev pub cancelledSince : Entry → List Event → Bool
 cancelledSince e [] = false
@@ -63,7 +64,7 @@ cancelledSince e (event ∷ events) = cancelledBy e event || cancelledSince e ev
 abbrev pub standing : List Event → List Entry
 standing [] = []
 standing (put e ∷ since) = cond (cancelledSince e since) (standing since) (e ∷ standing since)
-standing (takenOut start ∷ since) = standing since
+standing (takenOut key ∷ since) = standing since
 
 -- "the entries accepted and not since cancelled"
 abbrev pub acceptedNotCancelled : List Turn → List Entry

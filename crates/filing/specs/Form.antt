@@ -5,7 +5,7 @@ use Prim.Native.Nat.{ℕ}
 use lib.Dec.{leb, ltb, eqb}
 use lib.IntN.{ℤ, pos, natAbs}
 use Rattle.calendar.specs.Years.{lastYear, yearStart, yearEnd}
-use Rattle.outage.specs.declared.Entry.{Entry}
+use Rattle.entries.specs.declared.Entry.{Entry}
 use Rattle.outage.specs.Log.{slots, lastRegimeEnd, validEntries}
 use Rattle.year.specs.declared.Line.{Line}
 use Rattle.year.specs.Year.{goodLine, lineSlots}

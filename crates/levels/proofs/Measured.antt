@@ -18,9 +18,9 @@ use Rattle.calendar.proofs.Laws.{year-within}
 use Rattle.outage.specs.declared.Log.{Log}
 use Rattle.outage.specs.declared.losing.LostEnergy.{LostEnergy}
 use Rattle.outage.specs.declared.losing.LostEnergy.the-variants as lost
-use Rattle.outage.specs.Log.{slots, mostMw, firstRegimeEnd, lastRegimeEnd, validLog, live, lostEnergy}
+use Rattle.outage.specs.Log.{mostMw, firstRegimeEnd, lastRegimeEnd, validLog, live, lostEnergy}
 use Rattle.outage.specs.Calls.{lostRows, lostNumber, LostGives}
-use Rattle.outage.proofs.Holding.{valid-says}
+use Rattle.outage.proofs.Holding.{valid-end}
 use Rattle.outage.proofs.Only.{only-lost}
 use Rattle.outage.proofs.Most.{lost-given}
 use Rattle.levels.specs.declared.Book.{Book}
@@ -34,7 +34,7 @@ use Rattle.levels.specs.Availability.{availabilityIn, meetsTarget, avail
 late : (log : Log) → validLog log ≡ true → firstRegimeEnd ≤ log .«regime_end»
 late log v =
     let re = log .«regime_end» in
-    leb-true firstRegimeEnd re (and-left (leb firstRegimeEnd re) (leb re lastRegimeEnd) (valid-says slots (log .entries) (log .count) re v .end))
+    leb-true firstRegimeEnd re (and-left (leb firstRegimeEnd re) (leb re lastRegimeEnd) (valid-end log v))
 
 year-fits : (log : Log) (number : ℕ) → validLog log ≡ true → goodYear number ≡ true → (yearStart number ≤ yearEnd number (log .«regime_end»)) × (yearEnd number (log .«regime_end») ≤ log .«regime_end»)
 year-fits log number v g =

@@ -7,7 +7,7 @@ use Prim.Native.Nat.{ℕ}
 use lib.Dec.{leb, ltb}
 use lib.ListN.{length}
 use Rattle.lists.specs.Lists.{padded}
-use Rattle.outage.specs.declared.Entry.{Entry}
+use Rattle.entries.specs.declared.Entry.{Entry}
 use Rattle.outage.specs.Log.{lastRegimeEnd, goodEntry, holding}
 use Rattle.year.specs.declared.Line.{Line}
 use Rattle.year.specs.Year.{lineSlots, zeroLine}

@@ -21,6 +21,7 @@ use levels::availability_of;
 use levels::check_target;
 use levels::levels_of;
 use outage::Entry;
+use outage::Key;
 use outage::Log;
 use outage::Logged;
 use outage::LostEnergy;
@@ -57,7 +58,10 @@ pub(crate) fn enter(s: &[u8], log: Log) -> Log {
 }
 
 pub(crate) fn cancel(s: &[u8], log: Log) -> Log {
-    logged(outage::cancel(log, u32_at(s, 0)))
+    let key = Key {
+        start: u32_at(s, 0),
+    };
+    logged(outage::cancel(log, key))
 }
 
 pub(crate) fn lost(s: &[u8], log: Log) {

@@ -13,7 +13,7 @@ use Rattle.lists.specs.Lists.{all, pairwise}
 use Rattle.lists.proofs.Tests.{and-left, and-right, and-made, le-or-lt}
 use Rattle.lists.proofs.Lists.{all-as}
 use Rattle.refusals.specs.Refusals.{lowest}
-use Rattle.outage.specs.declared.Entry.{Entry}
+use Rattle.entries.specs.declared.Entry.{Entry}
 use Rattle.outage.specs.Log.{live}
 use Rattle.year.specs.declared.Line.{Line}
 use Rattle.year.specs.declared.Year.{Year}

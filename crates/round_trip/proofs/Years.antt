@@ -12,10 +12,11 @@ use lib.Seq.{length-take-le, take-append-seam, drop-append-seam, append-snoc}
 use Rattle.lists.specs.Lists.{all, padded}
 use Rattle.lists.proofs.Padded.{padded-back}
 use Rattle.lists.proofs.Tests.{and-left, and-right, and-made}
-use Rattle.outage.specs.declared.Entry.{Entry}
-use Rattle.outage.specs.Log.{slots, lastRegimeEnd, goodEntry, validEntries, validLog, live, holding}
-use Rattle.outage.proofs.Order.{Kept, kept-says, kept-made, follows, follows-valid, good-span, good-end, good-most}
-use Rattle.outage.proofs.Holding.{Valid, valid-says, live-length, holds, holding-live, holding-valid}
+use Rattle.entries.specs.declared.Entry.{Entry}
+use Rattle.outage.specs.Log.{slots, lastRegimeEnd, goodEntry, validEntries, rowOf, validLog, live, holding}
+use Rattle.entries.proofs.Order.{Kept, kept-says, kept-made, follows, follows-valid, good-span, good-end, good-most}
+use Rattle.entries.proofs.Rows.{Valid, valid-says}
+use Rattle.outage.proofs.Holding.{live-length, holds, holding-live, holding-valid}
 use Rattle.year.specs.declared.Line.{Line}
 use Rattle.year.specs.declared.Year.{Year}
 use Rattle.year.specs.Year.{goodAmount, goodLine, isZeroLine, goodLines, goodYearRecord, lineSlots, zeroLine}
@@ -225,8 +226,8 @@ module _ (y : Year) (v : validYear y ≡ true) where
   pub to-end : y .log .«regime_end» ≡ lastRegimeEnd
   to-end = eqb-true (y .log .«regime_end») lastRegimeEnd (and-left (eqb (y .log .«regime_end») lastRegimeEnd) (all (startsIn (y .number)) (live (y .log))) fits)
 
-  log-parts : Valid slots (y .log .entries) (y .log .count) (y .log .«regime_end»)
-  log-parts = valid-says slots (y .log .entries) (y .log .count) (y .log .«regime_end») log-valid
+  log-parts : Valid (rowOf (y .log))
+  log-parts = valid-says (rowOf (y .log)) log-valid
 
   log-kept : Kept lastRegimeEnd (live (y .log))
   log-kept = rw to-end at (log-parts .kept)

@@ -10,7 +10,7 @@ use lib.ListN.{take}
 use mir.Syntax.{w64}
 use mir.Val.{ofZ}
 use Rattle.lists.specs.Lists.{all, pairwise}
-use Rattle.outage.specs.declared.Entry.{Entry}
+use Rattle.entries.specs.declared.Entry.{Entry}
 use Rattle.year.specs.declared.Line.{Line}
 use Rattle.year.specs.declared.Year.{Year}
 use Rattle.codec.specs.Numbers.{bytesOf}

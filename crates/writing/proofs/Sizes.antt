@@ -8,9 +8,9 @@ use lib.IntN.{ℤ}
 use lib.ListN.{length, take, length-append}
 use lib.Seq.{length-take-le}
 use Rattle.lists.proofs.Tests.{and-left, and-right}
-use Rattle.outage.specs.declared.Entry.{Entry}
+use Rattle.entries.specs.declared.Entry.{Entry}
 use Rattle.outage.specs.Log.{slots, live, validLog}
-use Rattle.outage.proofs.Holding.{valid-says}
+use Rattle.outage.proofs.Holding.{valid-room}
 use Rattle.year.specs.declared.Line.{Line}
 use Rattle.year.specs.declared.Year.{Year}
 use Rattle.year.specs.Year.{goodYearRecord, lineSlots}
@@ -93,7 +93,7 @@ module _ (y : Year) where
 
 -- ---- a valid year has no more lines and outages than slots
 pub log-small : (y : Year) → validLog (y .log) ≡ true → y .log .count ≤ slots
-log-small y v = valid-says slots (y .log .entries) (y .log .count) (y .log .«regime_end») v .room
+log-small y v = valid-room (y .log) v
 
 module _ (y : Year) (valid : validYear y ≡ true) where
   pub few-outages : y .log .count ≤ slots
