@@ -1,10 +1,13 @@
 // The calls on log, book and year, each with its answer.
+use super::calls::Desk;
 use super::fields::i64_at;
 use super::fields::period_at;
 use super::fields::u8_at;
 use super::fields::u16_at;
 use super::fields::u32_at;
 use super::say;
+use super::setting::with_log;
+use super::setting::year_of;
 use super::sums;
 use assessment::assess_period;
 use balances::Assessment;
@@ -37,34 +40,36 @@ use settlement::pay;
 use year::Year;
 ghost use Prim.Native.Nat.{_≤_};
 
-fn logged(done: Logged) -> Log {
+fn logged(done: Logged, d: Desk) -> Desk {
     let answer = done.answer;
     let log = done.log;
     say::two(answer.number(), log.count as u64, sums::of_log(log));
-    log
+    with_log(d, log)
 }
 
-pub(crate) fn empty(s: &[u8]) -> Log {
-    logged(Log::empty(u32_at(s, 0)))
+pub(crate) fn empty(s: &[u8], d: Desk) -> Desk {
+    logged(Log::empty(u32_at(s, 0)), d)
 }
 
-pub(crate) fn enter(s: &[u8], log: Log) -> Log {
+pub(crate) fn enter(s: &[u8], d: Desk) -> Desk {
+    let log = d.log;
     let e = Entry {
         start: u32_at(s, 0),
         end: u32_at(s, 4),
         mw: u16_at(s, 8),
     };
-    logged(outage::enter(log, e))
+    logged(outage::enter(log, e), d)
 }
 
-pub(crate) fn cancel(s: &[u8], log: Log) -> Log {
+pub(crate) fn cancel(s: &[u8], d: Desk) -> Desk {
+    let log = d.log;
     let key = Key {
         start: u32_at(s, 0),
     };
-    logged(outage::cancel(log, key))
+    logged(outage::cancel(log, key), d)
 }
 
-pub(crate) fn lost(s: &[u8], log: Log) {
+pub(crate) fn lost(s: &[u8], log: Log) -> bool {
     let found = lost_energy(log, u32_at(s, 0), u32_at(s, 4));
     match found {
         LostEnergy::MwMinutes(x) => say::one(0, x),
@@ -72,7 +77,7 @@ pub(crate) fn lost(s: &[u8], log: Log) {
     }
 }
 
-pub(crate) fn minutes(s: &[u8]) {
+pub(crate) fn minutes(s: &[u8]) -> bool {
     let found = year_minutes(u8_at(s, 0), u32_at(s, 1));
     match found {
         YearMinutes::Span { first, end } => say::two(0, first as u64, end as u64),
@@ -80,7 +85,7 @@ pub(crate) fn minutes(s: &[u8]) {
     }
 }
 
-pub(crate) fn availability(s: &[u8], book: Book, log: Log) {
+pub(crate) fn availability(s: &[u8], book: Book, log: Log) -> bool {
     let found = availability_of(book, log, u8_at(s, 0));
     match found {
         Availability::MwMinutes(x) => say::one(0, x),
@@ -88,7 +93,7 @@ pub(crate) fn availability(s: &[u8], book: Book, log: Log) {
     }
 }
 
-pub(crate) fn target(s: &[u8], book: Book, log: Log) {
+pub(crate) fn target(s: &[u8], book: Book, log: Log) -> bool {
     let found = check_target(book, log, u8_at(s, 0));
     match found {
         Target::Met => say::one(0, 1),
@@ -97,7 +102,10 @@ pub(crate) fn target(s: &[u8], book: Book, log: Log) {
     }
 }
 
-pub(crate) fn levels(book: Book, y: Year, log: Log) {
+pub(crate) fn levels(d: Desk) -> bool {
+    let book = d.book;
+    let y = year_of(d);
+    let log = d.log;
     let found = levels_of(book, y, log);
     match found {
         Levels::Pounds { cap, floor } => say::amounts(0, cap, floor),
@@ -105,7 +113,7 @@ pub(crate) fn levels(book: Book, y: Year, log: Log) {
     }
 }
 
-pub(crate) fn revenue(y: Year) {
+pub(crate) fn revenue(y: Year) -> bool {
     let found = revenue_of(y);
     match found {
         Revenue::Pounds(z) => say::amount(0, z),
@@ -114,7 +122,7 @@ pub(crate) fn revenue(y: Year) {
 }
 
 // A, C, F, W, T and the adjustment.
-fn assessed(n: u8, f: Figures) {
+fn assessed(n: u8, f: Figures) -> bool {
     let revenue = f.revenue;
     let cap = f.cap;
     let floor = f.floor;
@@ -128,10 +136,10 @@ fn assessed(n: u8, f: Figures) {
     say::pounds(within);
     say::pounds(held);
     say::pounds(adjustment);
-    say::end();
+    say::end()
 }
 
-fn answer(found: Assessment) {
+fn answer(found: Assessment) -> bool {
     match found {
         Assessment::Found(f) => assessed(0, f),
         Assessment::Refused(why) => {
@@ -143,7 +151,7 @@ fn answer(found: Assessment) {
                 held: 0,
                 adjustment: 0,
             };
-            assessed(why.number(), none);
+            assessed(why.number(), none)
         }
     }
 }
@@ -181,17 +189,18 @@ fn rows_at(s: &[u8]) -> Yearly {
     }
 }
 
-pub(crate) fn rows(s: &[u8]) {
-    let found = assess(rows_at(s));
-    answer(found);
+pub(crate) fn rows(s: &[u8]) -> bool {
+    answer(assess(rows_at(s)))
 }
 
-pub(crate) fn period(book: Book, years: [Year; 5], log: Log) {
-    let found = assess_period(book, years, log);
-    answer(found);
+pub(crate) fn period(d: Desk) -> bool {
+    let book = d.book;
+    let years = d.years;
+    let log = d.log;
+    answer(assess_period(book, years, log))
 }
 
-pub(crate) fn gap(s: &[u8]) {
+pub(crate) fn gap(s: &[u8]) -> bool {
     let found = gap_between(period_at(s, 0, 4), period_at(s, 8, 12));
     match found {
         Gap::Hundredths(n) => say::one(0, n as u64),
@@ -199,7 +208,7 @@ pub(crate) fn gap(s: &[u8]) {
     }
 }
 
-pub(crate) fn growth(s: &[u8]) {
+pub(crate) fn growth(s: &[u8]) -> bool {
     let found = growth_at(u32_at(s, 0));
     match found {
         Growth::Billionths(x) => say::one(0, x),
@@ -207,26 +216,26 @@ pub(crate) fn growth(s: &[u8]) {
     }
 }
 
-fn paid(found: Payment) {
+fn paid(found: Payment) -> bool {
     match found {
         Payment::Pounds(z) => say::amount(0, z),
         Payment::Refused(why) => say::amount(why.number(), 0),
     }
 }
 
-pub(crate) fn payment(s: &[u8]) {
-    paid(pay(i64_at(s, 0), u32_at(s, 8)));
+pub(crate) fn payment(s: &[u8]) -> bool {
+    paid(pay(i64_at(s, 0), u32_at(s, 8)))
 }
 
-pub(crate) fn settle(s: &[u8]) {
-    paid(settlement::settle(i64_at(s, 0), period_at(s, 8, 12), period_at(s, 16, 20)));
+pub(crate) fn settle(s: &[u8]) -> bool {
+    paid(settlement::settle(i64_at(s, 0), period_at(s, 8, 12), period_at(s, 16, 20)))
 }
 
-pub(crate) fn reconcile(s: &[u8]) {
+pub(crate) fn reconcile(s: &[u8]) -> bool {
     paid(settlement::reconcile(
         i64_at(s, 0),
         i64_at(s, 8),
         period_at(s, 16, 20),
         period_at(s, 24, 28),
-    ));
+    ))
 }

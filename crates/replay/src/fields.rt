@@ -2,36 +2,24 @@
 use codec::number;
 use codec::signed;
 use libc::STDIN_FILENO;
-use outage::Log;
 use settlement::Period;
-use year::Year;
-ghost use mathlib.Core.Path.{_≡_};
-ghost use Prim.Native.Nat.{_<_};
+ghost use Prim.Native.Nat.{_<_, _≤_};
 ghost use Rattle.io.specs.Counts.{Counts};
 
 // The most bytes of a value.
 pub(crate) const ROOM: usize = 65_535;
 
-// What a field does, by what it needs and changes of what stands.
-pub(crate) enum Found {
-    OnLog,
-    OnBook,
-    OnYear,
-    LogOfYear,
-    OfYear,
-    OfLog,
-    OfYears,
-    OfNothing,
-    End,
-    Malformed,
-}
+// The most bytes that are kept, and that a call lends.
+pub(crate) const KEPT: usize = 262_144;
 
-// The next field of the script, its value at the front of the space.
+// The next field of the script, its value at the front of the space. Its call is 100,000 times its tag and the length;
+// 0 where the field is cut, END where there is none.
 pub(crate) struct Field {
-    pub(crate) found: Found,
-    pub(crate) tag: u8,
+    pub(crate) call: u64,
     pub(crate) length: usize,
 }
+
+pub(crate) const END: u64 = 1;
 
 // The number of one, two, four bytes from `at` on.
 pub(crate) fn u8_at(s: &[u8], at: usize) -> u8 {
@@ -64,70 +52,11 @@ pub(crate) fn period_at(s: &[u8], first: usize, last: usize) -> Period {
     }
 }
 
-// The place of a year, which a value starts with.
-pub(crate) fn year_at(s: &[u8]) -> usize
-    ensures { λ r. ⌜ r < 5 ⌝ }
+// The lesser of two numbers.
+pub(crate) fn least(n: usize, most: usize) -> usize
+    ensures { λ r. ⌜ (r ≤ n) × (r ≤ most) ⌝ }
 {
-    (number(s, 0, 1) % 5) as usize
-}
-
-// Whether a value of this tag may have this length.
-fn good_length(tag: u8, n: usize) -> bool {
-    match tag {
-        11 | 48 | 50 => n == 0,
-        6..=9 | 37..=39 | 49 => n == 1,
-        18 | 51 => n == 3,
-        1 | 3 | 13 => n == 4,
-        5 => n == 5,
-        4 => n == 8,
-        2 => n == 10,
-        14 | 32 | 33 | 36 => n == 12,
-        12 => n == 16,
-        15 => n == 24,
-        16 => n == 32,
-        35 => n == 33,
-        34 => n == 62,
-        10 => n == 180,
-        17 => 1 <= n,
-        19 => 2 <= n,
-        20 => true,
-        _ => false,
-    }
-}
-
-// Whether the places in a value are in range, and its mark is one.
-fn good_places(tag: u8, s: &[u8]) -> bool {
-    match tag {
-        8 | 9 | 17 | 18 | 37..=39 | 49 | 51 => number(s, 0, 1) < 5,
-        32 => number(s, 0, 2) < Log::SLOTS as u64,
-        35 => number(s, 0, 1) < 5 && number(s, 16, 1) < 2,
-        36 => number(s, 0, 1) < 5 && number(s, 1, 1) < Year::LINES as u64,
-        _ => true,
-    }
-}
-
-// What a field of this tag does.
-fn found_by(tag: u8) -> Found {
-    match tag {
-        1..=3 | 32 | 33 => Found::OnLog,
-        34 => Found::OnBook,
-        17 | 35..=38 => Found::OnYear,
-        39 => Found::LogOfYear,
-        8 | 9 | 18 | 49 | 51 => Found::OfYear,
-        4 | 6 | 7 | 48 | 50 => Found::OfLog,
-        11 => Found::OfYears,
-        _ => Found::OfNothing,
-    }
-}
-
-fn none(found: Found) -> Field
-    ensures { λ r. ⌜ r .length ≡ 0 ⌝ }
-{
-    Field {
-        found,
-        tag: 0,
-        length: 0,
-    }
+    if n < most { n } else { most }
 }
 
 // So many bytes, and no more than there are.
@@ -135,6 +64,18 @@ pub(crate) fn held(n: usize, space: &[u8]) -> usize
     ensures { λ r. ⌜ Counts r (now (space .entry)) ⌝ }
 {
     if space.len() < n { space.len() } else { n }
+}
+
+// The place of a year, which a value starts with.
+pub(crate) fn year_at(s: &[u8]) -> usize
+    ensures { λ r. ⌜ r < 5 ⌝ }
+{
+    (number(s, 0, 1) % 5) as usize
+}
+
+// The call again, where its value starts with the place of a year.
+pub(crate) fn of_year(call: u64, s: &[u8]) -> u64 {
+    if number(s, 0, 1) < 5 { call } else { 0 }
 }
 
 // Takes a value of this length, and answers how many bytes of it there are.
@@ -145,27 +86,27 @@ fn value(space: &mut [u8], length: usize) -> usize
     io::read_full(STDIN_FILENO, &mut space[..n])
 }
 
+// The call of a field of which so many bytes came of its head and of its value.
+fn call_of(head: usize, tag: u8, length: u16, got: usize) -> u64 {
+    if head == 0 {
+        return END;
+    }
+    if head < 3 || got < length as usize {
+        return 0;
+    }
+    tag as u64 * 100_000 + length as u64
+}
+
 // Takes the next field.
 pub(crate) fn take(space: &mut [u8]) -> Field
     ensures { λ r. ⌜ Counts (r .length) (now (space .exit)) ⌝ }
 {
     let mut head = [0u8; 3];
-    let got = io::read_full(STDIN_FILENO, &mut head);
-    if got == 0 {
-        return none(Found::End);
-    }
-    let tag = head[0];
-    let length = (number(&head, 1, 2) % 65_536) as usize;
-    if got < 3 || !good_length(tag, length) {
-        return none(Found::Malformed);
-    }
-    let n = value(space, length);
-    if n < length || !good_places(tag, &space[..n]) {
-        return none(Found::Malformed);
-    }
+    let began = io::read_full(STDIN_FILENO, &mut head);
+    let length = u16_at(&head, 1);
+    let got = value(space, length as usize);
     Field {
-        found: found_by(tag),
-        tag,
-        length: n,
+        call: call_of(began, u8_at(&head, 0), length, got),
+        length: got,
     }
 }

@@ -1,9 +1,13 @@
 // Returns read and written.
-use super::fields::ROOM;
+use super::calls::Desk;
+use super::fields::KEPT;
 use super::fields::held;
 use super::fields::u16_at;
+use super::fields::u32_at;
 use super::say;
+use super::setting::with_year;
 use super::sums;
+use codec::number;
 use printout::print_return;
 use reading::read_return;
 use writing::Written;
@@ -13,15 +17,28 @@ ghost use mathlib.Core.Path.{_≡_};
 ghost use lib.ListN.{length};
 
 // A return read into a year.
-pub(crate) fn read(s: &[u8]) -> Year {
-    if s.len() < 1 {
-        return Year::fresh();
-    }
-    let read = read_return(&s[1..]);
+fn read_into(s: &[u8], d: Desk) -> Desk {
+    let read = read_return(s);
     let answer = read.answer;
     let y = read.year;
     say::two(answer.number(), read.place as u64, sums::of_year(y));
-    y
+    with_year(d, y)
+}
+
+pub(crate) fn read(s: &[u8], d: Desk) -> Desk {
+    if s.len() < 1 {
+        return d;
+    }
+    if 4 < number(s, 0, 1) {
+        return d;
+    }
+    read_into(&s[1..], d)
+}
+
+pub(crate) fn read_kept(kept: &[u8; KEPT], d: Desk) -> Desk {
+    let all: &[u8] = kept;
+    let n = held(d.kept, all);
+    read_into(&all[..n], d)
 }
 
 // Every byte of a lent buffer as it is before a call.
@@ -35,51 +52,6 @@ fn fill(out: &mut [u8])
     }
 }
 
-// The number, the length and the buffer's sum.
-fn answer(done: Written, out: &[u8]) {
-    match done {
-        Written::Length(n) => say::two(0, n as u64, sums::of_bytes(out)),
-        Written::Refused(why) => say::two(why.number(), 0, sums::of_bytes(out)),
-    }
-}
-
-fn written(y: Year, out: &mut [u8]) {
-    fill(out);
-    let done = write_return(y, out);
-    answer(done, out);
-}
-
-// A year written into a buffer of the room asked for.
-pub(crate) fn write(s: &[u8], y: Year) {
-    let mut space = [0u8; ROOM];
-    let room = held(u16_at(s, 1) as usize, &space);
-    written(y, &mut space[..room]);
-}
-
-fn refiled(s: &[u8], out: &mut [u8]) {
-    fill(out);
-    let done = refiling::refile(s, out);
-    answer(done, out);
-}
-
-// A return read and written again.
-pub(crate) fn refile(s: &[u8]) {
-    let mut space = [0u8; ROOM];
-    let room = held(u16_at(s, 0) as usize, &space);
-    if s.len() < 2 {
-        return;
-    }
-    refiled(&s[2..], &mut space[..room]);
-}
-
-// What `daysheet` prints of a return.
-pub(crate) fn print(s: &[u8]) {
-    let sheet = print_return(s);
-    let bytes = sheet.bytes;
-    let length = held(sheet.length, &bytes);
-    say::two(0, length as u64, sums::of_bytes(&bytes[..length]));
-}
-
 fn bytes(out: &[u8]) {
     let mut i: usize = 0;
     while i < out.len() {
@@ -88,26 +60,77 @@ fn bytes(out: &[u8]) {
     }
 }
 
-fn shown(y: Year, out: &mut [u8]) {
+// The number, the length and the buffer: its sum, or every byte of it.
+fn told(n: u8, written: usize, out: &[u8], whole: bool) -> bool {
+    say::number(n);
+    say::figure(written as u64);
+    if whole {
+        bytes(out);
+    } else {
+        say::figure(sums::of_bytes(out));
+    }
+    say::end()
+}
+
+fn answer(done: Written, out: &[u8], whole: bool) -> bool {
+    match done {
+        Written::Length(n) => told(0, n, out, whole),
+        Written::Refused(why) => told(why.number(), 0, out, whole),
+    }
+}
+
+fn written(y: Year, out: &mut [u8], whole: bool) -> bool {
     fill(out);
     let done = write_return(y, out);
-    match done {
-        Written::Length(n) => {
-            say::number(0);
-            say::figure(n as u64);
-        }
-        Written::Refused(why) => {
-            say::number(why.number());
-            say::figure(0);
-        }
-    }
-    bytes(out);
-    say::end();
+    answer(done, out, whole)
+}
+
+// A year written into a buffer of the room asked for.
+fn lent(y: Year, room: u16, whole: bool) -> bool {
+    let mut space = [0u8; KEPT];
+    let n = held(room as usize, &space);
+    written(y, &mut space[..n], whole)
+}
+
+pub(crate) fn write(s: &[u8], y: Year) -> bool {
+    lent(y, u16_at(s, 1), false)
 }
 
 // What writing a year gives, byte for byte.
-pub(crate) fn show(s: &[u8], y: Year) {
-    let mut space = [0u8; ROOM];
-    let room = held(u16_at(s, 1) as usize, &space);
-    shown(y, &mut space[..room]);
+pub(crate) fn show(s: &[u8], y: Year) -> bool {
+    lent(y, u16_at(s, 1), true)
+}
+
+fn refiled(s: &[u8], out: &mut [u8]) -> bool {
+    fill(out);
+    let done = refiling::refile(s, out);
+    answer(done, out, false)
+}
+
+// A return read and written again.
+fn again(s: &[u8], room: u32) -> bool {
+    let mut space = [0u8; KEPT];
+    let n = held(room as usize, &space);
+    refiled(s, &mut space[..n])
+}
+
+pub(crate) fn refile_kept(s: &[u8], kept: &[u8; KEPT], d: Desk) -> bool {
+    let all: &[u8] = kept;
+    let n = held(d.kept, all);
+    again(&all[..n], u32_at(s, 0))
+}
+
+pub(crate) fn refile(s: &[u8]) -> bool {
+    if s.len() < 2 {
+        return false;
+    }
+    again(&s[2..], u16_at(s, 0) as u32)
+}
+
+// What `daysheet` prints of a return.
+pub(crate) fn print(s: &[u8]) -> bool {
+    let sheet = print_return(s);
+    let bytes = sheet.bytes;
+    let length = held(sheet.length, &bytes);
+    say::two(0, length as u64, sums::of_bytes(&bytes[..length]))
 }

@@ -1,5 +1,6 @@
 // Carries out a script of calls on standard input and prints every answer: docs/REPLAY.md.
 mod asking;
+mod calls;
 mod fields;
 mod filings;
 mod say;
@@ -7,105 +8,75 @@ mod setting;
 mod showing;
 mod sums;
 
-use fields::Found;
+use calls::Desk;
+use calls::carry_out;
+use fields::KEPT;
 use fields::ROOM;
+use fields::least;
+use fields::u8_at;
 use levels::Book;
 use outage::Log;
 use year::Year;
 
-// A place in the script so many bytes on, as far as a number goes.
-fn after(place: u64, bytes: usize) -> u64 {
-    let more = bytes as u64;
-    let last = 18_446_744_073_709_551_615 - more;
-    if place < last { place + more } else { last }
+// The place in the script behind a field whose value has so many bytes, as far as a number goes.
+fn after(place: u64, length: usize) -> u64 {
+    if 18_000_000_000_000_000_000 < place {
+        return place;
+    }
+    place + 3 + least(length, ROOM) as u64
 }
 
-// The log after a call on it.
-fn on_log(tag: u8, s: &[u8], log: Log) -> Log {
-    match tag {
-        1 => asking::empty(s),
-        2 => asking::enter(s, log),
-        3 => asking::cancel(s, log),
-        32 => setting::slot(s, log),
-        _ => setting::count(s, log),
+// Puts the bytes of a value behind those that are kept.
+fn keep(kept: &mut [u8; KEPT], from: usize, to: usize, s: &[u8]) {
+    let end = least(to, KEPT);
+    let mut i = from;
+    let mut j: usize = 0;
+    while i < end {
+        kept[i] = u8_at(s, j);
+        i += 1;
+        j += 1;
     }
 }
 
-// A year after a call that changes it.
-fn on_year(tag: u8, s: &[u8], y: Year, log: Log) -> Year {
-    match tag {
-        17 => filings::read(s),
-        35 => setting::year(s, y),
-        36 => setting::line(s, y),
-        37 => setting::fresh(),
-        _ => setting::log_of(y, log),
+// What stands at the start.
+fn start() -> Desk {
+    let made = Log::empty(Log::LAST_REGIME_END);
+    let log = made.log;
+    let book = Book::published();
+    let years = [Year::fresh(); 5];
+    Desk {
+        log,
+        book,
+        years,
+        kept: 0,
+        k: 0,
+        done: false,
     }
 }
 
-// A call on one year that changes nothing.
-fn of_year(tag: u8, s: &[u8], y: Year, book: Book, log: Log) {
-    match tag {
-        8 => asking::levels(book, y, log),
-        9 => asking::revenue(y),
-        18 => filings::write(s, y),
-        49 => showing::year(y),
-        _ => filings::show(s, y),
-    }
-}
-
-// A call on book or log that changes nothing.
-fn of_log(tag: u8, s: &[u8], book: Book, log: Log) {
-    match tag {
-        4 => asking::lost(s, log),
-        6 => asking::availability(s, book, log),
-        7 => asking::target(s, book, log),
-        48 => showing::log(log),
-        _ => showing::book(book),
-    }
-}
-
-// A call on nothing that stands.
-fn of_nothing(tag: u8, s: &[u8]) {
-    match tag {
-        5 => asking::minutes(s),
-        10 => asking::rows(s),
-        12 => asking::gap(s),
-        13 => asking::growth(s),
-        14 => asking::payment(s),
-        15 => asking::settle(s),
-        16 => asking::reconcile(s),
-        19 => filings::refile(s),
-        _ => filings::print(s),
+// The last line, where the script ends by a field that is no call.
+fn stop(call: u64, place: u64) {
+    if call != fields::END {
+        say::malformed(place);
     }
 }
 
 fn main() {
     let mut space = [0u8; ROOM];
-    let made = Log::empty(Log::LAST_REGIME_END);
-    let mut log = made.log;
-    let mut book = Book::published();
-    let mut years = [Year::fresh(); 5];
+    let mut kept = [0u8; KEPT];
+    let mut desk = start();
     let mut place: u64 = 0;
     let mut left: u64 = 18_446_744_073_709_551_615;
     while 0 < left {
         left -= 1;
         let field = fields::take(&mut space);
-        let tag = field.tag;
-        let found = field.found;
         let s = &space[..field.length];
-        let k = fields::year_at(s);
-        match found {
-            Found::OnLog => log = on_log(tag, s, log),
-            Found::OnBook => book = setting::book(s),
-            Found::OnYear => years[k] = on_year(tag, s, years[k], log),
-            Found::LogOfYear => log = setting::log_from(years[k]),
-            Found::OfYear => of_year(tag, s, years[k], book, log),
-            Found::OfLog => of_log(tag, s, book, log),
-            Found::OfYears => asking::period(book, years, log),
-            Found::OfNothing => of_nothing(tag, s),
-            Found::End => return,
-            Found::Malformed => return say::malformed(place),
+        let next = carry_out(field.call, s, &kept, desk);
+        keep(&mut kept, desk.kept, next.kept, s);
+        if !next.done {
+            return stop(field.call, place);
         }
-        place = after(place, 3 + field.length);
+        desk = next;
+        place = after(place, field.length);
     }
 }

@@ -37,49 +37,51 @@ pub(crate) fn pounds(z: i64) {
     }
 }
 
-pub(crate) fn end() {
+// The end of an answer: the call was carried out.
+pub(crate) fn end() -> bool {
     io::write_all(STDOUT_FILENO, b"\n");
+    true
 }
 
 // The answer of a call that gives one figure.
-pub(crate) fn one(n: u8, x: u64) {
+pub(crate) fn one(n: u8, x: u64) -> bool {
     number(n);
     figure(x);
-    end();
+    end()
 }
 
 // The answer of a call that gives an amount.
-pub(crate) fn amount(n: u8, z: i64) {
+pub(crate) fn amount(n: u8, z: i64) -> bool {
     number(n);
     pounds(z);
-    end();
+    end()
 }
 
 // The answer of a call that gives two figures.
-pub(crate) fn two(n: u8, x: u64, y: u64) {
+pub(crate) fn two(n: u8, x: u64, y: u64) -> bool {
     number(n);
     figure(x);
     figure(y);
-    end();
+    end()
 }
 
 // The answer of a call that gives two amounts.
-pub(crate) fn amounts(n: u8, y: i64, z: i64) {
+pub(crate) fn amounts(n: u8, y: i64, z: i64) -> bool {
     number(n);
     pounds(y);
     pounds(z);
-    end();
+    end()
 }
 
 // The answer of what sets something.
-pub(crate) fn set() {
+pub(crate) fn set() -> bool {
     number(0);
-    end();
+    end()
 }
 
 // The last line of a script whose field at this place is malformed.
-pub(crate) fn malformed(place: u64) {
+pub(crate) fn malformed(place: u64) -> bool {
     io::write_all(STDOUT_FILENO, b"malformed ");
     io::print_decimal(STDOUT_FILENO, place);
-    end();
+    end()
 }

@@ -23,11 +23,11 @@ fn entries(log: Log) {
 }
 
 // The log.
-pub(crate) fn log(log: Log) {
+pub(crate) fn log(log: Log) -> bool {
     io::print_decimal(STDOUT_FILENO, log.count as u64);
     say::figure_32(log.regime_end);
     entries(log);
-    say::end();
+    say::end()
 }
 
 fn line(l: Line) {
@@ -51,7 +51,7 @@ fn mark(exceptional: bool) {
 }
 
 // A year.
-pub(crate) fn year(y: Year) {
+pub(crate) fn year(y: Year) -> bool {
     let within = y.within;
     let rows = y.lines;
     let held = y.log;
@@ -68,11 +68,11 @@ pub(crate) fn year(y: Year) {
     say::figure(held.count as u64);
     say::figure_32(held.regime_end);
     entries(held);
-    say::end();
+    say::end()
 }
 
 // The book.
-pub(crate) fn book(b: Book) {
+pub(crate) fn book(b: Book) -> bool {
     let pcl = b.pcl;
     let pfl = b.pfl;
     let pcac = b.pcac;
@@ -89,5 +89,5 @@ pub(crate) fn book(b: Book) {
     say::pounds(orac);
     say::pounds(oraf);
     say::figure_16(b.miss_factor);
-    say::end();
+    say::end()
 }
