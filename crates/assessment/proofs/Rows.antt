@@ -1,14 +1,14 @@
 -- One year's amounts, from the answers that its levels and revenue gave. Assumes nothing.
-use mathlib.Core.Path.{_≡_, refl, sym, ap, _∙_}
-use mathlib.Core.Bool.{Bool, true, false, cond, _&&_}
-use native.Mathlib.Nat.{not-suc-le-zero}
-use native.Mathlib.Omega.{arith}
+use mathlib.Core.Path.{_≡_, sym, ap, _∙_}
+use mathlib.Core.Bool.{Bool, true, false, cond, _&&_, not}
+use mathlib.Core.List.{[], _∷_}
 use borrow.Author.Tests.{eq-eqb}
 use lib.IntN.{ℤ, pos}
-use Rattle.lists.proofs.Tests.{not-no, and-assoc}
+use Rattle.lists.proofs.Tests.{not-no, and-assoc, not-yes}
 use Rattle.refusals.specs.declared.Refusal.{Refusal}
-use Rattle.refusals.specs.Refusals.{lowest}
-use Rattle.refusals.proofs.Laws.{all-clear, never-zero}
+use Rattle.refusals.specs.Refusals.{lowest, Rows}
+use Rattle.refusals.proofs.Laws.{all-clear, last-row}
+use Rattle.refusals.specs.declared.Refusal.the-variants.{BadBook, BrokenLog, BadYear, TooLarge}
 use Rattle.outage.specs.declared.Log.{Log}
 use Rattle.outage.specs.Log.{validLog}
 use Rattle.year.specs.declared.Year.{Year}
@@ -44,13 +44,10 @@ module _ (book : Book) (y : Year) (log : Log) (r : Levels) (g : LevelsGives book
 
   pub levels-refused : (why : Refusal) → bookHolds book (log .«regime_end») ≡ true → validLog log ≡ true → goodYearRecord y ≡ true
       → r ≡ levels.Refused why → (levelFits (capLevel book y) && levelFits (floorOf book y log)) ≡ false
-  levels-refused why b v d e = by (levelFits (capLevel book y) && levelFits (floorOf book y log)) refl
-    where
-      by : (t : Bool) → (levelFits (capLevel book y) && levelFits (floorOf book y log)) ≡ t → t ≡ false
-      by false f = refl
-      by true f =
-          let n : lowest (levelsRows book y log) ≡ 0 = simp (b, v, d, f) in
-          absurd (not-suc-le-zero {n = 0} (omega (arith, never-zero why, sym (ap levelsNumber e) ∙ g .0 ∙ n)))
+  levels-refused why b v d e =
+      let fits = levelFits (capLevel book y) && levelFits (floorOf book y log) in
+      let front : Rows = (BadBook, not (bookHolds book (log .«regime_end»))) ∷ (BrokenLog, not (validLog log)) ∷ (BadYear, not (goodYearRecord y)) ∷ [] in
+      not-yes fits (last-row front TooLarge why (not fits) (ap not b, ap not v, ap not d, tt) (sym (ap levelsNumber e) ∙ g .0) .0)
 
 -- ---- the revenue's answer
 pub record Earned (y : Year) (z : ℤ) : Type 0 where
@@ -69,13 +66,9 @@ module _ (y : Year) (r : Revenue) (g : RevenueGives y r) where
       }
 
   pub revenue-refused : (why : Refusal) → goodYearRecord y ≡ true → r ≡ revenue.Refused why → levelFits (assessedRevenue y) ≡ false
-  revenue-refused why d e = by (levelFits (assessedRevenue y)) refl
-    where
-      by : (t : Bool) → levelFits (assessedRevenue y) ≡ t → t ≡ false
-      by false f = refl
-      by true f =
-          let n : lowest (revenueRows y) ≡ 0 = simp (d, f) in
-          absurd (not-suc-le-zero {n = 0} (omega (arith, never-zero why, sym (ap revenueNumber e) ∙ g .0 ∙ n)))
+  revenue-refused why d e =
+      let fits = levelFits (assessedRevenue y) in
+      not-yes fits (last-row ((BadYear, not (goodYearRecord y)) ∷ []) TooLarge why (not fits) (ap not d, tt) (sym (ap revenueNumber e) ∙ g .0) .0)
 
 -- ---- the row
 module _ (book : Book) (y : Year) (log : Log) where

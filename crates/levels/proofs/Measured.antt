@@ -1,16 +1,17 @@
 -- What the availability of a year and its target come to, from what the calls made on the way answer. Assumes nothing.
 use mathlib.Core.Path.{_≡_, refl, sym, ap, _∙_}
 use mathlib.Core.Bool.{Bool, true, false, cond, not}
+use mathlib.Core.List.{[]}
 use Prim.Native.Nat.{ℕ, _-_, _*_, _≤_}
 use native.Mathlib.Omega.{arith}
 use borrow.Author.Tests.{leb-true, eq-eqb}
 use lib.Dec.{leb, eqb}
-use Rattle.lists.proofs.Tests.{and-left, and-right, not-no}
+use Rattle.lists.proofs.Tests.{and-left, and-right, not-no, not-yes}
 use Rattle.refusals.specs.declared.Refusal.{Refusal}
 use Rattle.refusals.specs.declared.Refusal.the-variants.{BadBook, BrokenLog, BadYear}
 use Rattle.refusals.specs.declared.Answer.the-variants as answer
-use Rattle.refusals.specs.Refusals.{lowest, accepted, numberOf}
-use Rattle.refusals.proofs.Laws.{all-clear, never-zero, refused-not, same-refusal}
+use Rattle.refusals.specs.Refusals.{lowest, accepted}
+use Rattle.refusals.proofs.Laws.{all-clear, refused-not, last-row}
 use Rattle.calendar.specs.declared.YearMinutes.{YearMinutes}
 use Rattle.calendar.specs.declared.YearMinutes.the-variants as minutes
 use Rattle.calendar.specs.Years.{yearStart, yearEnd, lastYear, goodYear, yearRows, firstOf, endOf, minutesNumber, MinutesGives}
@@ -58,11 +59,9 @@ module _ (number regimeEnd : ℕ) (m : YearMinutes) (g : MinutesGives number reg
   span-good first end e = not-no (goodYear number) (all-clear (yearRows number) (sym (g .0) ∙ ap minutesNumber e) .0)
 
   pub minutes-bad : (why : Refusal) → m ≡ minutes.Refused why → (goodYear number ≡ false) × (why ≡ BadYear)
-  minutes-bad why e = by (goodYear number) refl (sym (ap minutesNumber e) ∙ g .0)
-    where
-      by : (b : Bool) → goodYear number ≡ b → numberOf why ≡ cond (not b) 9 0 → (goodYear number ≡ false) × (why ≡ BadYear)
-      by true h n = absurd (omega (arith, never-zero why))
-      by false h n = (h, same-refusal why BadYear n)
+  minutes-bad why e =
+      let k = last-row [] BadYear why (not (goodYear number)) tt (sym (ap minutesNumber e) ∙ g .0) in
+      (not-yes (goodYear number) (k .0), k .1)
 
 -- ---- what the lost-energy call's answer says of the log
 module _ (log : Log) (number : ℕ) (r : LostEnergy) (g : LostGives log (firstOf number) (endOf number (log .«regime_end»)) r) where

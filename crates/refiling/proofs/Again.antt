@@ -1,14 +1,13 @@
 -- What is read is written again as it was. Assumes nothing.
 use mathlib.Core.Path.{_≡_, refl, ap, _∙_}
-use mathlib.Core.Bool.{Bool, true, false, cond}
-use mathlib.Core.List.{List}
+use mathlib.Core.Bool.{true, false}
+use mathlib.Core.List.{List, []}
 use Prim.Native.Nat.{ℕ}
-use native.Mathlib.Nat.{not-suc-le-zero}
-use native.Mathlib.Omega.{arith}
 use Rattle.lists.proofs.Tests.{and-left, and-right}
 use Rattle.refusals.specs.declared.Refusal.{Refusal}
 use Rattle.refusals.specs.Refusals.{lowest, numberOf}
-use Rattle.refusals.proofs.Laws.{never-zero}
+use Rattle.refusals.proofs.Laws.{last-row}
+use Rattle.refusals.specs.declared.Refusal.the-variants.{Malformed}
 use Rattle.outage.specs.Log.{validLog}
 use Rattle.year.specs.declared.Year.{Year}
 use Rattle.codec.specs.Numbers.{Bytes}
@@ -22,11 +21,9 @@ use Rattle.refiling.specs.Refiled.{RefileGives}
 module _ (bs out : List ℕ) where
   -- a refused reading
   pub refused-again : (why : Refusal) → numberOf why ≡ lowest (readRows bs) → RefileGives bs out (Refused why) out
-  refused-again why e = by (isRefused (readingOf bs)) refl e
-    where
-      by : (t : Bool) → isRefused (readingOf bs) ≡ t → _≡_ {A = ℕ} (numberOf why) (cond t 13 0) → RefileGives bs out (Refused why) out
-      by true s e = rw s (e, refl, refl)
-      by false s e = absurd (not-suc-le-zero {n = 0} (omega (arith, never-zero why)))
+  refused-again why e =
+      let k = last-row [] Malformed why (isRefused (readingOf bs)) tt e in
+      rw (k .0) (ap numberOf (k .1), refl, refl)
 
   -- a year that was read is written as the bytes that it was read from
   pub written-again : Bytes bs → lowest (readRows bs) ≡ 0 → (y : Year) → y ≡ readYear bs → (r : Written) {after : List ℕ} → WriteGives y out r after → RefileGives bs out r after

@@ -69,6 +69,16 @@ module _ {R F : Type 0} {number : R → ℕ} {figures : R → F} {none : F} {fou
           let w : number s ≡ numberOf (q .why) = ap number (q .is) ∙ a .number-refused (q .why) in
           p .is ∙ ap refused (same-refusal (p .why) (q .why) (sym v ∙ n ∙ w)) ∙ sym (q .is)
 
+  -- the figures meet rows of which none applies, and a refusal those whose number it has
+  pub found-meets : (rows : Rows) (f : F) → lowest rows ≡ 0 → (number (found f) ≡ lowest rows) × (figures (found f) ≡ cond (accepted rows) f none)
+  found-meets rows f e =
+      (a .number-found f ∙ sym e, a .figures-found f ∙ sym (ap (λ (b : Bool). cond b f none) (eq-eqb (lowest rows) 0 e)))
+
+  pub refused-meets : (rows : Rows) (f : F) (why : Refusal) → numberOf why ≡ lowest rows → (number (refused why) ≡ lowest rows) × (figures (refused why) ≡ cond (accepted rows) f none)
+  refused-meets rows f why e =
+      let no : accepted rows ≡ false = ne-eqb (lowest rows) 0 (λ z. not-suc-le-zero {n = 0} (omega (arith, never-zero why))) in
+      (a .number-refused why ∙ e, a .figures-refused why ∙ sym (ap (λ (b : Bool). cond b f none) no))
+
   -- each list of rows is answered, by the figures where none applies, and in one way
   pub one-case : (rows : Rows) (f : F) → One (λ (r : R). (number r ≡ lowest rows) × (figures r ≡ cond (accepted rows) f none))
   one-case rows f = by (firstOf rows) (first-number rows)
@@ -82,12 +92,8 @@ module _ {R F : Type 0} {number : R → ℕ} {figures : R → F} {none : F} {fou
       }
 
       by : (answer : Answer) → answerNumber answer ≡ lowest rows → One (λ (r : R). (number r ≡ lowest rows) × (figures r ≡ cond (accepted rows) f none))
-      by Done e =
-          let yes : accepted rows ≡ true = eq-eqb (lowest rows) 0 (sym e) in
-          given (found f) (a .number-found f ∙ e, a .figures-found f ∙ sym (ap (λ (b : Bool). cond b f none) yes))
-      by (Refused why) e =
-          let no : accepted rows ≡ false = ne-eqb (lowest rows) 0 (λ z. not-suc-le-zero {n = 0} (omega (arith, never-zero why))) in
-          given (refused why) (a .number-refused why ∙ e, a .figures-refused why ∙ sym (ap (λ (b : Bool). cond b f none) no))
+      by Done e = given (found f) (found-meets rows f (sym e))
+      by (Refused why) e = given (refused why) (refused-meets rows f why e)
 
 -- ---- two figures
 module _ {A B : Type 0} where

@@ -1,7 +1,7 @@
 -- A number determines its refusal, and 0 says that no row applies. Assumes nothing.
 use mathlib.Core.Path.{_≡_, refl, sym, ap, _∙_}
 use mathlib.Core.Bool.{Bool, true, false, cond}
-use mathlib.Core.List.{List, [], _∷_, map}
+use mathlib.Core.List.{List, [], _∷_, _++_, map}
 use Prim.Native.Nat.{ℕ, zero, suc, _<_}
 use native.Mathlib.Omega.{arith}
 use native.Mathlib.Nat.{not-suc-le-zero}
@@ -102,6 +102,13 @@ pub refused-not : (a : Answer) (rows : Rows) (why : Refusal) → answerNumber a 
 refused-not a rows why n e =
     let k : lowest rows ≡ numberOf why = sym n ∙ ap answerNumber e in
     ne-eqb (lowest rows) 0 (λ z. not-suc-le-zero {n = 0} (omega (arith, never-zero why)))
+
+-- from a refusal to its row: where no row before it applies, the last row does, and the refusal is its
+pub last-row : (front : Rows) (last why : Refusal) (t : Bool) → AllClear front → numberOf why ≡ lowest (front ++ ((last, t) ∷ [])) → (t ≡ true) × (why ≡ last)
+last-row [] last why true c e = (refl, same-refusal why last e)
+last-row [] last why false c e = absurd (not-suc-le-zero {n = 0} (omega (arith, never-zero why)))
+last-row (row ∷ front) last why t c e =
+    last-row front last why t (c .1) (e ∙ ap (λ (b : Bool). cond b (numberOf (row .0)) (lowest (front ++ ((last, t) ∷ [])))) (c .0))
 
 -- what a call gives is the one thing where it is not refused and the other where it is
 module _ {A : Type 0} (rows : Rows) (n : ℕ) (given asked other : A) (number : n ≡ lowest rows) (is : given ≡ cond (accepted rows) asked other) where

@@ -1,6 +1,7 @@
 -- Payments: what a grown amount is, what a gap tells, and what is held to what fits. Assumes nothing.
 use mathlib.Core.Path.{_≡_, refl, sym, ap, _∙_, subst}
 use mathlib.Core.Bool.{Bool, true, false, not, cond, _&&_}
+use mathlib.Core.List.{[]}
 use Prim.Native.Nat.{ℕ, _*_, _/_, _^_, _≤_, _<_}
 use native.Mathlib.Nat.{mul-le-mul, le-of-lt}
 use native.Mathlib.Omega.{arith}
@@ -8,10 +9,11 @@ use lib.Dec.{leb, eqb, lit<}
 use lib.IntN.{ℤ, pos, negsuc, negℤ, natAbs}
 use lib.Signed.{ltZ}
 use borrow.Author.Tests.{lt-ltb, leb-true}
-use Rattle.lists.proofs.Tests.{and-right, not-no}
+use Rattle.lists.proofs.Tests.{and-right, not-no, not-yes}
 use Rattle.refusals.specs.declared.Refusal.{Refusal}
 use Rattle.refusals.specs.Refusals.{lowest, numberOf}
-use Rattle.refusals.proofs.Laws.{never-zero, all-clear}
+use Rattle.refusals.proofs.Laws.{all-clear, last-row}
+use Rattle.refusals.specs.declared.Refusal.the-variants.{BadPeriod}
 use Rattle.money.specs.Pounds.{heldZ}
 use Rattle.money.proofs.Pounds.{held-small, held-within}
 use Rattle.money.proofs.Nearest.{debit-on, credit-on}
@@ -71,11 +73,9 @@ gap-told g a b n e num fig = record { holds = holds; figure = figure; few = subs
 
 -- and refused where the row does
 pub gap-refused : (g : Gap) (a b : Period) (why : Refusal) → g ≡ gap.Refused why → gapNumber g ≡ lowest (gapRows a b) → (numberOf why ≡ 12) × (gapHolds a b ≡ false)
-gap-refused g a b why e num = by (gapHolds a b) (sym (ap gapNumber e) ∙ num)
-  where
-    by : (t : Bool) → numberOf why ≡ cond (not t) 12 0 → (numberOf why ≡ 12) × (t ≡ false)
-    by true k = absurd (omega (arith, never-zero why))
-    by false k = (k, refl)
+gap-refused g a b why e num =
+    let k = last-row [] BadPeriod why (not (gapHolds a b)) tt (sym (ap gapNumber e) ∙ num) in
+    (ap numberOf (k .1), not-yes (gapHolds a b) (k .0))
 
 -- over an allowed gap an adjustment is paid as an amount is
 pub settle-as-pay : (z : ℤ) (a b : Period) (n : ℕ) → Told a b n → (lowest (payRows z n) ≡ lowest (settleRows z a b)) × (payGiven z n ≡ settleGiven z a b)

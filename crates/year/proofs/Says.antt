@@ -1,21 +1,21 @@
 -- What a line in range, lines in range and a year in range say of their fields, and what the check of a year says of it. Assumes nothing.
-use mathlib.Core.Path.{_≡_, refl, sym, ap, _∙_}
-use mathlib.Core.Bool.{Bool, true, false, cond, not, _&&_, _||_}
-use mathlib.Core.List.{List}
+use mathlib.Core.Path.{_≡_, sym, ap, _∙_}
+use mathlib.Core.Bool.{true, false, not, _&&_, _||_}
+use mathlib.Core.List.{List, []}
 use Prim.Native.Nat.{ℕ, _≤_}
-use native.Mathlib.Omega.{arith}
 use lib.Dec.{leb}
 use lib.IntN.{natAbs}
 use lib.ListN.{take, drop}
 use lib.Signed.{nonNeg}
 use borrow.Author.Tests.{leb-true}
 use Rattle.lists.specs.Lists.{all}
-use Rattle.lists.proofs.Tests.{and-left, and-right, not-no}
+use Rattle.lists.proofs.Tests.{and-left, and-right, not-no, not-yes}
 use Rattle.refusals.specs.declared.Refusal.{Refusal}
 use Rattle.refusals.specs.declared.Answer.{Answer}
 use Rattle.refusals.specs.declared.Answer.the-variants.{Done, Refused}
-use Rattle.refusals.specs.Refusals.{numberOf, answerNumber}
-use Rattle.refusals.proofs.Laws.{all-clear, done-clear, never-zero}
+use Rattle.refusals.specs.Refusals.{answerNumber}
+use Rattle.refusals.proofs.Laws.{all-clear, done-clear, last-row}
+use Rattle.refusals.specs.declared.Refusal.the-variants.{BadYear}
 use Rattle.calendar.specs.Years.{goodYear, lastYear}
 use Rattle.year.specs.declared.Line.{Line}
 use Rattle.year.specs.declared.Year.{Year}
@@ -117,8 +117,4 @@ module _ (y : Year) (a : Answer) (g : CheckGives y a) where
   checked-good e = not-no (goodYearRecord y) (all-clear (yearRows y) (done-clear a (yearRows y) g e) .0)
 
   pub checked-bad : (why : Refusal) → a ≡ Refused why → goodYearRecord y ≡ false
-  checked-bad why e = by (goodYearRecord y) (sym (ap answerNumber e) ∙ g)
-    where
-      by : (b : Bool) → numberOf why ≡ cond (not b) 9 0 → b ≡ false
-      by false n = refl
-      by true n = absurd (omega (arith, never-zero why))
+  checked-bad why e = not-yes (goodYearRecord y) (last-row [] BadYear why (not (goodYearRecord y)) tt (sym (ap answerNumber e) ∙ g) .0)
