@@ -8,7 +8,7 @@ use lib.Dec.{leb, ltb}
 use lib.ListN.{length}
 use Rattle.lists.specs.Lists.{padded}
 use Rattle.entries.specs.declared.Entry.{Entry}
-use Rattle.outage.specs.Log.{lastRegimeEnd, goodEntry, holding}
+use Rattle.outage.specs.Log.{lastRegimeEnd, holding}
 use Rattle.year.specs.declared.Line.{Line}
 use Rattle.year.specs.Year.{lineSlots, zeroLine}
 use Rattle.calendar.specs.Years.{goodYear}
@@ -40,13 +40,12 @@ abbrev pub factorsFound : Option (ℕ × ℕ) → FactorsAt
 factorsFound none = F.Not
 factorsFound (some f) = F.Are (f .0) (f .1)
 
--- ---- an outage that starts from `first` on and before `end`, no earlier than the one before it ended, and is good
-abbrev pub mayStand : ℕ → ℕ → ℕ → Entry → Bool
-mayStand first end freeFrom e =
-    (leb first (e .start) && ltb (e .start) end) && (leb freeFrom (e .start) && goodEntry lastRegimeEnd e)
+-- ---- an outage that starts from `first` on and before `end`
+abbrev pub mayStand : ℕ → ℕ → Entry → Bool
+mayStand first end e = leb first (e .start) && ltb (e .start) end
 
-abbrev pub standing : ℕ → ℕ → ℕ → Value Entry
-standing first end freeFrom = such (mayStand first end freeFrom) entryLayout
+abbrev pub standing : ℕ → ℕ → Value Entry
+standing first end = such (mayStand first end) entryLayout
 
 -- ---- the lines read from a place on stand in the first slots
 pub record LinesRead (s : List ℕ) (from : ℕ) (r : Lines) : Type 0 where
