@@ -103,8 +103,10 @@ fn figure_words(call: &Call, figures: &[i128]) -> Option<String> {
         Call::Revenue { .. } | Call::Pay { .. } | Call::Settle { .. } | Call::Reconcile { .. } => {
             format!("{} pounds", first?)
         }
-        Call::Read { .. } => format!("accepted, year sum {}", figures.get(1)?),
-        Call::Write { .. } | Call::Refile { .. } => {
+        Call::Read { .. } | Call::ReadKept { .. } => {
+            format!("accepted, year sum {}", figures.get(1)?)
+        }
+        Call::Write { .. } | Call::Refile { .. } | Call::RefileKept { .. } => {
             format!("{} bytes, buffer sum {}", first?, figures.get(1)?)
         }
         Call::Sheet { .. } => format!("text of {} bytes, sum {}", first?, figures.get(1)?),
@@ -130,7 +132,7 @@ fn words_of_numbers(call: &Call, numbers: &[i128]) -> Option<String> {
         return figure_words(call, figures);
     }
     let place = match call {
-        Call::Read { .. } => format!(" at place {}", figures.first()?),
+        Call::Read { .. } | Call::ReadKept { .. } => format!(" at place {}", figures.first()?),
         _ => String::new(),
     };
     Some(format!("refused {number}{place}: {}", refusal_words(*number)))

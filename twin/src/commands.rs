@@ -15,6 +15,8 @@ use crate::words::{call_words, parse_line, word};
 
 /// Where the script of a difference is written.
 const DIFFERENCE: &str = "target/twin-difference.script";
+/// The last tag of a call of the library; those above it set and show.
+const LAST_CALL: u8 = 22;
 /// How many wrong figures are shown one by one.
 const SHOWN_DIFFERENCES: usize = 10;
 
@@ -66,8 +68,8 @@ fn write_script(seed: u64, least: u64, parts: mpsc::Sender<Part>, mut stdin: Chi
             if returns * 15 < calls { generator.return_block() } else { generator.next_block() };
         let mut script = Vec::new();
         for (call, _) in &block.calls {
-            calls += (call.tag() <= 20) as u64;
-            returns += (17..=20).contains(&call.tag()) as u64;
+            calls += (call.tag() <= LAST_CALL) as u64;
+            returns += (17..=LAST_CALL).contains(&call.tag()) as u64;
             script.extend(call.encode());
         }
         place += script.len();
@@ -94,7 +96,7 @@ struct Tally {
 impl Tally {
     fn count(&mut self, call: &Call, answer: &str) {
         let tag = call.tag();
-        if tag > 20 {
+        if tag > LAST_CALL {
             self.others += 1;
             return;
         }
@@ -364,7 +366,7 @@ pub fn figures(path: &str, command: &[String]) -> Outcome {
             println!("  expected: {expected}");
             println!("  program:  {}", shown(found));
             if let Some(number) = found.split(' ').next().and_then(|number| number.parse().ok()) {
-                if number != 0 && call.tag() <= 20 {
+                if number != 0 && call.tag() <= LAST_CALL {
                     println!("  refused {number}: {}", refusal_words(number));
                 }
             }

@@ -17,13 +17,14 @@ use crate::model::sums::{byte_sum, log_sum, year_sum};
 use crate::model::year::Year;
 use crate::model::yearly_return::{read, write_into};
 use crate::model::Refusal;
-use crate::script::{next_field, Call, Field};
+use crate::script::{next_field, Call, Field, KEPT};
 
 #[derive(Clone)]
 pub struct Desk {
     pub log: Log,
     pub book: Book,
     pub years: [Year; 5],
+    pub kept: Vec<u8>,
 }
 
 /// Numbers in a row, a blank between them.
@@ -57,8 +58,18 @@ fn number_of(answer: Result<(), Refusal>) -> Refusal {
 }
 
 /// The buffer that is lent: byte i is 255 less i mod 251.
-fn lent_buffer(room: u16) -> Vec<u8> {
-    (0..room as usize).map(|i| (255 - i % 251) as u8).collect()
+fn lent_buffer(room: usize) -> Vec<u8> {
+    (0..room.min(KEPT)).map(|i| (255 - i % 251) as u8).collect()
+}
+
+/// The answer of a return read and written again.
+fn refile_answer(bytes: &[u8], room: usize) -> String {
+    let mut buffer = lent_buffer(room);
+    let (number, length) = match read(bytes) {
+        Ok(year) => write_into(&year, &mut buffer),
+        Err(_) => (13, 0),
+    };
+    row([number as i128, length as i128, byte_sum(&buffer) as i128])
 }
 
 fn log_numbers(log: &Log) -> Vec<i128> {
@@ -109,11 +120,22 @@ impl Desk {
             log: Log::fresh(),
             book: Book::fresh(),
             years: std::array::from_fn(|_| Year::fresh()),
+            kept: Vec::new(),
         }
     }
 
     fn log_answer(&self, number: Refusal) -> String {
         row([number as i128, self.log.count as i128, log_sum(&self.log) as i128])
+    }
+
+    /// Reads a return into a year, and gives the answer.
+    fn read_into(&mut self, k: u8, bytes: &[u8]) -> String {
+        let (number, place, year) = match read(bytes) {
+            Ok(year) => (0, 0, year),
+            Err(place) => (13, place as i128, Year::fresh()),
+        };
+        *self.year(k) = year;
+        row([number, place, year_sum(self.year(k)) as i128])
     }
 
     fn year(&mut self, k: u8) -> &mut Year {
@@ -164,27 +186,15 @@ impl Desk {
                 let answer = reconcile(*final_amount, *provisional, *earlier, *later);
                 figures(answer.map(|pounds| [pounds]))
             }
-            Call::Read { k, bytes } => {
-                let (number, place, year) = match read(bytes) {
-                    Ok(year) => (0, 0, year),
-                    Err(place) => (13, place as i128, Year::fresh()),
-                };
-                *self.year(*k) = year;
-                row([number, place, year_sum(self.year(*k)) as i128])
-            }
+            Call::Read { k, bytes } => self.read_into(*k, bytes),
+            Call::ReadKept { k } => self.read_into(*k, &self.kept.clone()),
             Call::Write { k, room } => {
-                let mut buffer = lent_buffer(*room);
+                let mut buffer = lent_buffer(*room as usize);
                 let (number, length) = write_into(self.year(*k), &mut buffer);
                 row([number as i128, length as i128, byte_sum(&buffer) as i128])
             }
-            Call::Refile { room, bytes } => {
-                let mut buffer = lent_buffer(*room);
-                let (number, length) = match read(bytes) {
-                    Ok(year) => write_into(&year, &mut buffer),
-                    Err(_) => (13, 0),
-                };
-                row([number as i128, length as i128, byte_sum(&buffer) as i128])
-            }
+            Call::Refile { room, bytes } => refile_answer(bytes, *room as usize),
+            Call::RefileKept { room } => refile_answer(&self.kept, *room as usize),
             Call::Sheet { bytes } => {
                 let text = daysheet::text(bytes);
                 row([0, text.len() as i128, byte_sum(text.as_bytes()) as i128])
@@ -193,7 +203,7 @@ impl Desk {
             Call::ShowYear { k } => row(year_numbers(self.year(*k))),
             Call::ShowBook => row(book_numbers(&self.book)),
             Call::ShowWrite { k, room } => {
-                let mut buffer = lent_buffer(*room);
+                let mut buffer = lent_buffer(*room as usize);
                 let (number, length) = write_into(self.year(*k), &mut buffer);
                 let head = [number as i128, length as i128];
                 row(head.into_iter().chain(buffer.iter().map(|byte| *byte as i128)))
@@ -230,6 +240,11 @@ impl Desk {
             Call::FreshYear { k } => *self.year(*k) = Year::fresh(),
             Call::YearLog { k } => self.years[*k as usize].log = self.log.clone(),
             Call::TakeLog { k } => self.log = self.years[*k as usize].log.clone(),
+            Call::Keep { bytes } => {
+                let more = bytes.len().min(KEPT - self.kept.len());
+                self.kept.extend(&bytes[..more]);
+            }
+            Call::Forget => self.kept.clear(),
             _ => unreachable!("not a call that sets something"),
         }
     }
@@ -281,7 +296,7 @@ mod tests {
         );
         assert_eq!(answers(&script), expected);
         let length = script.len();
-        script.extend([21, 0, 0, 48, 0, 0]);
+        script.extend([23, 0, 0, 48, 0, 0]);
         assert_eq!(answers(&script), format!("{expected}malformed {length}\n"));
     }
 
@@ -311,6 +326,24 @@ mod tests {
         let answer = desk.carry_out(&Call::Read { k: 2, bytes: vec![1, 0, 1, 1] });
         assert_eq!(answer, format!("13 4 {}", year_sum(&Year::fresh())));
         assert_eq!(desk.years[2], Year::fresh());
+    }
+
+    #[test]
+    fn kept_bytes_are_read_as_one_return() {
+        let mut desk = Desk::new();
+        let bytes = crate::model::yearly_return::write(&Year::fresh(), 100).unwrap();
+        for byte in &bytes {
+            assert_eq!(desk.carry_out(&Call::Keep { bytes: vec![*byte] }), "0");
+        }
+        assert!(desk.carry_out(&Call::ReadKept { k: 1 }).starts_with("0 0 "));
+        assert!(desk.carry_out(&Call::RefileKept { room: 70_000 }).starts_with("0 23 "));
+        for _ in 0..5 {
+            desk.carry_out(&Call::Keep { bytes: vec![255; 65_535] });
+        }
+        assert_eq!(desk.kept.len(), KEPT);
+        assert!(desk.carry_out(&Call::ReadKept { k: 1 }).starts_with("13 8192 "));
+        assert_eq!(desk.carry_out(&Call::Forget), "0");
+        assert!(desk.carry_out(&Call::ReadKept { k: 1 }).starts_with("13 0 "));
     }
 
     #[test]

@@ -94,9 +94,9 @@ impl Generator {
     /// Bytes that are no field of a script, with a good field after them.
     pub fn malformed_field(&mut self) -> Vec<u8> {
         let random = &mut self.random;
-        let k_tags = [8, 9, 37, 38, 39, 49];
+        let k_tags = [8, 9, 21, 37, 38, 39, 49];
         let mut field = match random.below(9) {
-            0 => vec![random.pick(&[0, 21, 31, 40, 47, 52, 255]), 0, 0],
+            0 => vec![random.pick(&[0, 23, 31, 42, 47, 52, 255]), 0, 0],
             1 => vec![random.pick(&k_tags), 0, 1, random.pick(&[5, 255])],
             2 => vec![random.pick(&[18, 51]), 0, 3, 5, 0, 0],
             3 => vec![random.pick(&[17, 19]), 0, 0],
@@ -121,7 +121,7 @@ impl Generator {
     /// A field whose length is not that of its tag, or a field that is cut.
     fn wrong_length(&mut self) -> Vec<u8> {
         let mut block = self.block("anything", Generator::any_work);
-        block.calls.retain(|(call, _)| ![17, 19, 20].contains(&call.tag()));
+        block.calls.retain(|(call, _)| ![17, 19, 20, 40].contains(&call.tag()));
         let (call, _) = self.random.pick(&block.calls);
         let mut field = call.encode();
         if self.random.one_in(2) {
@@ -199,7 +199,7 @@ mod tests {
     /// it can give (READINGS, the table of checks).
     #[test]
     fn every_refusal_is_frequent() {
-        let expected: [(u8, &[&str]); 19] = [
+        let expected: [(u8, &[&str]); 21] = [
             (1, &["0", "8"]),
             (2, &["0", "1", "2", "3", "4", "5"]),
             (3, &["0", "1", "6"]),
@@ -219,6 +219,8 @@ mod tests {
             (17, &["0", "13"]),
             (18, &["0", "1", "9", "14"]),
             (19, &["0", "13", "14"]),
+            (21, &["0", "13"]),
+            (22, &["0", "13", "14"]),
         ];
         let mut seen: BTreeMap<(u8, String), u64> = BTreeMap::new();
         let mut generator = Generator::new(1);

@@ -38,6 +38,9 @@ impl YearFields {
     }
 }
 
+/// The most bytes that are kept, and that a call lends.
+pub const KEPT: usize = 262_144;
+
 /// A call; k is the place of a year, 0 to 4.
 #[derive(Clone, Debug, PartialEq, Eq)]
 pub enum Call {
@@ -61,6 +64,8 @@ pub enum Call {
     Write { k: u8, room: u16 },
     Refile { room: u16, bytes: Vec<u8> },
     Sheet { bytes: Vec<u8> },
+    ReadKept { k: u8 },
+    RefileKept { room: u32 },
     SetSlot { slot: u16, outage: Slot },
     SetCount { count: u64, regime_end: u32 },
     SetBook { book: Book },
@@ -69,6 +74,8 @@ pub enum Call {
     FreshYear { k: u8 },
     YearLog { k: u8 },
     TakeLog { k: u8 },
+    Keep { bytes: Vec<u8> },
+    Forget,
     ShowLog,
     ShowYear { k: u8 },
     ShowBook,
@@ -98,6 +105,8 @@ impl Call {
             Call::Write { .. } => 18,
             Call::Refile { .. } => 19,
             Call::Sheet { .. } => 20,
+            Call::ReadKept { .. } => 21,
+            Call::RefileKept { .. } => 22,
             Call::SetSlot { .. } => 32,
             Call::SetCount { .. } => 33,
             Call::SetBook { .. } => 34,
@@ -106,6 +115,8 @@ impl Call {
             Call::FreshYear { .. } => 37,
             Call::YearLog { .. } => 38,
             Call::TakeLog { .. } => 39,
+            Call::Keep { .. } => 40,
+            Call::Forget => 41,
             Call::ShowLog => 48,
             Call::ShowYear { .. } => 49,
             Call::ShowBook => 50,
@@ -142,9 +153,10 @@ impl Call {
             | Call::FreshYear { k }
             | Call::YearLog { k }
             | Call::TakeLog { k }
+            | Call::ReadKept { k }
             | Call::ShowYear { k } => value.u8(*k),
             Call::Assess { rows } => rows.iter().for_each(|row| value.row(row)),
-            Call::Period | Call::ShowLog | Call::ShowBook => (),
+            Call::Period | Call::Forget | Call::ShowLog | Call::ShowBook => (),
             Call::Gap { earlier, later } => value.periods(earlier, later),
             Call::Growth { n } => value.u32(*n),
             Call::Pay { amount, n } => {
@@ -172,7 +184,8 @@ impl Call {
                 value.u16(*room);
                 value.0.extend(bytes);
             }
-            Call::Sheet { bytes } => value.0.extend(bytes),
+            Call::Sheet { bytes } | Call::Keep { bytes } => value.0.extend(bytes),
+            Call::RefileKept { room } => value.u32(*room),
             Call::SetSlot { slot, outage } => {
                 value.u16(*slot);
                 value.outage(outage);
@@ -235,6 +248,8 @@ impl Call {
             18 => Call::Write { k: part.k()?, room: part.u16()? },
             19 => Call::Refile { room: part.u16()?, bytes: part.rest() },
             20 => Call::Sheet { bytes: part.rest() },
+            21 => Call::ReadKept { k: part.k()? },
+            22 => Call::RefileKept { room: part.u32()? },
             32 => {
                 let slot = part.u16()?;
                 if slot as usize >= SLOTS {
@@ -256,6 +271,8 @@ impl Call {
             37 => Call::FreshYear { k: part.k()? },
             38 => Call::YearLog { k: part.k()? },
             39 => Call::TakeLog { k: part.k()? },
+            40 => Call::Keep { bytes: part.rest() },
+            41 => Call::Forget,
             48 => Call::ShowLog,
             49 => Call::ShowYear { k: part.k()? },
             50 => Call::ShowBook,

@@ -6,7 +6,7 @@ use crate::model::calendar::{date_of_minute, day_number, minute_of_date};
 use crate::model::log::{Slot, LAST_REGIME_END, SLOTS};
 use crate::model::settlement::Period;
 use crate::model::year::{Line, LINES};
-use crate::script::{Call, YearFields};
+use crate::script::{Call, YearFields, KEPT};
 
 /// The word for a tag.
 pub fn word(tag: u8) -> &'static str {
@@ -31,6 +31,8 @@ pub fn word(tag: u8) -> &'static str {
         18 => "write",
         19 => "refile",
         20 => "sheet",
+        21 => "read-kept",
+        22 => "refile-kept",
         32 => "set-slot",
         33 => "set-count",
         34 => "set-book",
@@ -39,6 +41,8 @@ pub fn word(tag: u8) -> &'static str {
         37 => "fresh-year",
         38 => "year-log",
         39 => "take-log",
+        40 => "keep",
+        41 => "forget",
         48 => "show-log",
         49 => "show-year",
         50 => "show-book",
@@ -180,16 +184,20 @@ impl<'a> Words<'a> {
     }
 }
 
+/// The words of lines that are several calls.
+const FILLING: [&str; 3] = ["fill", "fill-lines", "fill-kept"];
+
 /// The calls of a line: none where the line is a comment, an expected answer
-/// or blank, several where it fills a log or a year's lines.
+/// or blank, several where it fills a log, a year's lines or the kept bytes.
 pub fn parse_line(line: &str) -> Result<Vec<Call>, String> {
     let line = line.trim();
     if line.is_empty() || line.starts_with('#') || line.starts_with('>') {
         return Ok(Vec::new());
     }
     let mut words = Words { left: line.split_whitespace().peekable() };
-    let calls = match words.left.next_if(|word| ["fill", "fill-lines"].contains(word)) {
+    let calls = match words.left.next_if(|word| FILLING.contains(word)) {
         Some("fill") => filling(&mut words)?,
+        Some("fill-kept") => kept_filling(&mut words)?,
         Some(_) => line_filling(&mut words)?,
         None => vec![parse_call(&mut words)?],
     };
@@ -229,6 +237,17 @@ fn line_filling(words: &mut Words) -> Result<Vec<Call>, String> {
         return Err("there are 64 line slots".to_string());
     }
     Ok((0..count).map(|slot| Call::SetLine { k, slot, line: line.clone() }).collect())
+}
+
+/// `fill-kept COUNT BYTE`: so many bytes of one value more are kept.
+fn kept_filling(words: &mut Words) -> Result<Vec<Call>, String> {
+    let count: u32 = words.number("how many")?;
+    let byte: u8 = words.number("the byte")?;
+    if count as usize > KEPT {
+        return Err(format!("at most {KEPT} bytes are kept"));
+    }
+    let bytes = vec![byte; count as usize];
+    Ok(bytes.chunks(u16::MAX as usize).map(|part| Call::Keep { bytes: part.to_vec() }).collect())
 }
 
 fn parse_call(words: &mut Words) -> Result<Call, String> {
@@ -271,6 +290,8 @@ fn parse_call(words: &mut Words) -> Result<Call, String> {
         "write" => Call::Write { k: words.k()?, room: words.number("the room")? },
         "refile" => Call::Refile { room: words.number("the room")?, bytes: words.bytes()? },
         "sheet" => Call::Sheet { bytes: words.bytes()? },
+        "read-kept" => Call::ReadKept { k: words.k()? },
+        "refile-kept" => Call::RefileKept { room: words.number("the room")? },
         "set-slot" => {
             let slot = words.number("the slot")?;
             if slot as usize >= SLOTS {
@@ -324,6 +345,8 @@ fn parse_call(words: &mut Words) -> Result<Call, String> {
         "fresh-year" => Call::FreshYear { k: words.k()? },
         "year-log" => Call::YearLog { k: words.k()? },
         "take-log" => Call::TakeLog { k: words.k()? },
+        "keep" => Call::Keep { bytes: words.bytes()? },
+        "forget" => Call::Forget,
         "show-log" => Call::ShowLog,
         "show-year" => Call::ShowYear { k: words.k()? },
         "show-book" => Call::ShowBook,
@@ -356,12 +379,13 @@ pub fn call_words(call: &Call) -> String {
         | Call::FreshYear { k }
         | Call::YearLog { k }
         | Call::TakeLog { k }
+        | Call::ReadKept { k }
         | Call::ShowYear { k } => k.to_string(),
         Call::Assess { rows } => {
             let row = |r: &Row| format!("{} {} {} {} {}", r.index, r.revenue, r.cap, r.floor, r.w);
             rows.iter().map(row).collect::<Vec<_>>().join("  ")
         }
-        Call::Period | Call::ShowLog | Call::ShowBook => String::new(),
+        Call::Period | Call::Forget | Call::ShowLog | Call::ShowBook => String::new(),
         Call::Gap { earlier, later } => days_words(earlier, later),
         Call::Growth { n } => n.to_string(),
         Call::Pay { amount, n } => format!("{amount} {n}"),
@@ -374,7 +398,8 @@ pub fn call_words(call: &Call) -> String {
         Call::Read { k, bytes } => format!("{k} {}", hexadecimal(bytes)),
         Call::Write { k, room } | Call::ShowWrite { k, room } => format!("{k} {room}"),
         Call::Refile { room, bytes } => format!("{room} {}", hexadecimal(bytes)),
-        Call::Sheet { bytes } => hexadecimal(bytes),
+        Call::Sheet { bytes } | Call::Keep { bytes } => hexadecimal(bytes),
+        Call::RefileKept { room } => room.to_string(),
         Call::SetSlot { slot, outage } => format!("{slot} {}", outage_words(outage)),
         Call::SetCount { count, regime_end } => format!("{count} {}", time(regime_end)),
         Call::SetBook { book: b } => format!(
@@ -429,6 +454,8 @@ mod tests {
         assert_eq!(parse_line("fill 2 0 10 5 1").map(|calls| calls.len()), Ok(2));
         assert_eq!(parse_line("fill-lines 0 64 1 0 5").map(|calls| calls.len()), Ok(64));
         assert!(parse_line("fill-lines 0 65 1 0 5").is_err());
+        assert_eq!(parse_line("fill-kept 65536 7").map(|calls| calls.len()), Ok(2));
+        assert!(parse_line("fill-kept 262145 7").is_err());
         assert_eq!(parse_line(""), Ok(vec![]));
     }
 

@@ -85,9 +85,16 @@ fn written(y: Year, out: &mut [u8], whole: bool) -> bool {
     answer(done, out, whole)
 }
 
+// Room to lend. Its length is all that is said of it.
+fn room_to_lend() -> [u8; KEPT]
+    ensures { λ r. ⌜ 262144 ≡ length r ⌝ }
+{
+    [0; KEPT]
+}
+
 // A year written into a buffer of the room asked for.
 fn lent(y: Year, room: u16, whole: bool) -> bool {
-    let mut space = [0u8; KEPT];
+    let mut space = room_to_lend();
     let n = held(room as usize, &space);
     written(y, &mut space[..n], whole)
 }
@@ -109,7 +116,7 @@ fn refiled(s: &[u8], out: &mut [u8]) -> bool {
 
 // A return read and written again.
 fn again(s: &[u8], room: u32) -> bool {
-    let mut space = [0u8; KEPT];
+    let mut space = room_to_lend();
     let n = held(room as usize, &space);
     refiled(s, &mut space[..n])
 }

@@ -65,14 +65,17 @@ pub(crate) fn of_year(y: Year) -> u64 {
     let lines = y.lines;
     let log = y.log;
     let within = y.within;
-    let mark: u32 = if y.exceptional { 1 } else { 0 };
-    let numbers = more(more(more(0, y.number as u32), y.pppi), y.rate);
-    let factors = more(
-        more(more(numbers, y.aic as u32), y.pyc as u32),
-        y.pyf as u32,
-    );
-    let counted = more_wide(more_of_lines(factors, lines), y.line_count as u64);
-    more_of_log(more_wide(more(counted, mark), unsigned(within)), log)
+    let mut sum = more(0, y.number as u32);
+    sum = more(sum, y.pppi);
+    sum = more(sum, y.rate);
+    sum = more(sum, y.aic as u32);
+    sum = more(sum, y.pyc as u32);
+    sum = more(sum, y.pyf as u32);
+    sum = more_of_lines(sum, lines);
+    sum = more_wide(sum, y.line_count as u64);
+    sum = more(sum, if y.exceptional { 1 } else { 0 });
+    sum = more_wide(sum, unsigned(within));
+    more_of_log(sum, log)
 }
 
 pub(crate) fn of_bytes(s: &[u8]) -> u64 {

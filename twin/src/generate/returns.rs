@@ -36,6 +36,9 @@ impl Generator {
             if self.random.one_in(3) {
                 self.change_and_write(k);
             }
+            if self.random.one_in(2) {
+                self.kept_work(k);
+            }
             if self.random.one_in(4) {
                 self.call(Call::Revenue { k });
                 self.call(Call::TakeLog { k });
@@ -58,6 +61,30 @@ impl Generator {
                 _ => self.call(Call::Sheet { bytes }),
             }
         }
+    }
+
+    /// A return that is kept in parts, some of them longer than a field with
+    /// its head, and then read and filed again.
+    fn kept_work(&mut self, k: u8) {
+        let mut bytes = self.some_return();
+        if self.random.one_in(60) {
+            let more = self.random.pick(&[65_535, 66_000, 131_072, 262_144]);
+            bytes.resize(bytes.len() + more, self.random.pick(&[0, 7, 255]));
+        }
+        self.call(Call::Forget);
+        let mut left = &bytes[..];
+        while !left.is_empty() {
+            let most = left.len().min(65_535) as u64;
+            let part = 1 + self.random.below(most) as usize;
+            self.call(Call::Keep { bytes: left[..part].to_vec() });
+            left = &left[part..];
+        }
+        self.call(Call::ReadKept { k });
+        let room = match self.random.below(40) {
+            0 => self.random.pick(&[65_536, 100_000, 262_144, 262_145, u32::MAX]),
+            _ => self.some_room(k) as u32,
+        };
+        self.call(Call::RefileKept { room });
     }
 
     /// A year that was read, changed in one thing and written.
