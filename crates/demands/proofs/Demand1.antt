@@ -26,8 +26,8 @@ use Rattle.levels.proofs.Only.{one-availability, one-target, one-levels}
 use Rattle.revenue.specs.Revenue.{assessedRevenue, revenueRows, revenueNumber, revenueFigure}
 use Rattle.revenue.proofs.Only.{one-revenue}
 use Rattle.balances.specs.Balance.{periodYears}
-use Rattle.balances.specs.Assessment.{figuresIn, noFigures, assessRows, assessNumber, assessFigures}
-use Rattle.balances.proofs.Only.{one-assess}
+use Rattle.balances.specs.Assessment.{figuresIn, noFigures, assessRows, assessNumber, assessFigures, assessRowsOf}
+use Rattle.balances.proofs.Only.{one-years, one-assess}
 use Rattle.assessment.specs.Period.{yearlyOf, periodRows}
 use Rattle.assessment.proofs.Only.{one-period}
 use Rattle.settlement.specs.Gap.{daySum, hundredths}
@@ -81,6 +81,7 @@ demand-1 = record {
   target = one-target;
   levels = one-levels;
   revenue = one-revenue;
+  assess-years = one-years;
   assess = one-assess;
   period = one-period;
   gap = one-gap;
@@ -127,6 +128,7 @@ demand-1 = record {
     beside-refused (levelsRows book y l) (levelsNumber r) (floorFigure r) (floorOf book y l) (pos 0) (g .0) (g .2) n,
   );
   revenue-refused = λ y r g n. beside-refused (revenueRows y) (revenueNumber r) (revenueFigure r) (assessedRevenue y) (pos 0) (g .0) (g .1) n;
+  assess-years-refused = λ y k r g n. beside-refused (assessRowsOf y k) (assessNumber r) (assessFigures r) (figuresIn y k) noFigures (g .0) (g .1) n;
   assess-refused = λ y r g n. beside-refused (assessRows y) (assessNumber r) (assessFigures r) (figuresIn y periodYears) noFigures (g .0) (g .1) n;
   period-refused = λ book years l r g n. beside-refused (periodRows book years l) (assessNumber r) (assessFigures r) (figuresIn (yearlyOf book years l periodYears) periodYears) noFigures (g .0) (g .1) n;
   gap-refused = λ earlier later r g n. beside-refused (gapRows earlier later) (gapNumber r) (gapFigure r) (natAbs (hundredths (daySum earlier) (daySum later))) 0 (g .0) (g .1) n;

@@ -33,7 +33,7 @@ use Rattle.revenue.specs.declared.Revenue.{Revenue}
 use Rattle.revenue.specs.Revenue.{revenueNumber, revenueFigure, RevenueGives}
 use Rattle.balances.specs.declared.assessing.Yearly.{Yearly}
 use Rattle.balances.specs.declared.assessing.Assessment.{Assessment}
-use Rattle.balances.specs.Assessment.{goodYearly, noFigures, assessNumber, assessFigures, AssessGives}
+use Rattle.balances.specs.Assessment.{goodYearly, noFigures, assessNumber, assessFigures, YearsGives, AssessGives}
 use Rattle.assessment.specs.Period.{PeriodGives}
 use Rattle.settlement.specs.declared.medians.Period.{Period}
 use Rattle.settlement.specs.declared.medians.Gap.{Gap}
@@ -66,6 +66,7 @@ pub record Demand1 : Type 0 where
   pub target : (book : Book) (log : Log) (number : ℕ) → One (TargetGives book log number)
   pub levels : (book : Book) (y : Year) (log : Log) → One (LevelsGives book y log)
   pub revenue : (y : Year) → One (RevenueGives y)
+  pub assess-years : (y : Yearly) (n : ℕ) → One (YearsGives y n)
   pub assess : (y : Yearly) → One (AssessGives y)
   pub period : (book : Book) (years : List Year) (log : Log) → One (PeriodGives book years log)
   pub gap : (earlier later : Period) → One (GapGives earlier later)
@@ -106,6 +107,7 @@ pub record Demand1 : Type 0 where
   pub target-refused : (book : Book) (log : Log) (number : ℕ) (r : Target) → TargetGives book log number r → (targetNumber r ≡ 0 → ⊥) → targetMet r ≡ false
   pub levels-refused : (book : Book) (y : Year) (log : Log) (r : Levels) → LevelsGives book y log r → (levelsNumber r ≡ 0 → ⊥) → (capFigure r ≡ pos 0) × (floorFigure r ≡ pos 0)
   pub revenue-refused : (y : Year) (r : Revenue) → RevenueGives y r → (revenueNumber r ≡ 0 → ⊥) → revenueFigure r ≡ pos 0
+  pub assess-years-refused : (y : Yearly) (n : ℕ) (r : Assessment) → YearsGives y n r → (assessNumber r ≡ 0 → ⊥) → assessFigures r ≡ noFigures
   pub assess-refused : (y : Yearly) (r : Assessment) → AssessGives y r → (assessNumber r ≡ 0 → ⊥) → assessFigures r ≡ noFigures
   pub period-refused : (book : Book) (years : List Year) (log : Log) (r : Assessment) → PeriodGives book years log r → (assessNumber r ≡ 0 → ⊥) → assessFigures r ≡ noFigures
   pub gap-refused : (earlier later : Period) (r : Gap) → GapGives earlier later r → (gapNumber r ≡ 0 → ⊥) → gapFigure r ≡ 0
