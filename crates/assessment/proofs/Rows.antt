@@ -47,7 +47,7 @@ module _ (book : Book) (y : Year) (log : Log) (r : Levels) (g : LevelsGives book
   levels-refused why b v d e =
       let fits = levelFits (capLevel book y) && levelFits (floorOf book y log) in
       let front : Rows = (BadBook, not (bookHolds book (log .«regime_end»))) ∷ (BrokenLog, not (validLog log)) ∷ (BadYear, not (goodYearRecord y)) ∷ [] in
-      not-yes fits (last-row front TooLarge why (not fits) (ap not b, ap not v, ap not d, tt) (sym (ap levelsNumber e) ∙ g .0) .0)
+      not-yes fits (last-row front TooLarge why (not fits) (ap not b, (ap not v, (ap not d, tt))) (sym (ap levelsNumber e) ∙ g .0) .0)
 
 -- ---- the revenue's answer
 pub record Earned (y : Year) (z : ℤ) : Type 0 where
