@@ -1,9 +1,9 @@
 // The calls on log, book and year, each with its answer.
 use super::calls::Desk;
+use super::fields::entry_at;
 use super::fields::i64_at;
 use super::fields::period_at;
 use super::fields::u8_at;
-use super::fields::u16_at;
 use super::fields::u32_at;
 use super::say;
 use super::setting::with_log;
@@ -23,7 +23,6 @@ use levels::Target;
 use levels::availability_of;
 use levels::check_target;
 use levels::levels_of;
-use outage::Entry;
 use outage::Key;
 use outage::Log;
 use outage::Logged;
@@ -43,7 +42,7 @@ ghost use Prim.Native.Nat.{_≤_};
 fn logged(done: Logged, d: Desk) -> Desk {
     let answer = done.answer;
     let log = done.log;
-    say::two(answer.number(), log.count as u64, sums::of_log(log));
+    say::two(answer.number(), log.count as u64, sums::more_of_log(0, log));
     with_log(d, log)
 }
 
@@ -53,12 +52,7 @@ pub(crate) fn empty(s: &[u8], d: Desk) -> Desk {
 
 pub(crate) fn enter(s: &[u8], d: Desk) -> Desk {
     let log = d.log;
-    let e = Entry {
-        start: u32_at(s, 0),
-        end: u32_at(s, 4),
-        mw: u16_at(s, 8),
-    };
-    logged(outage::enter(log, e), d)
+    logged(outage::enter(log, entry_at(s, 0, 4, 8)), d)
 }
 
 pub(crate) fn cancel(s: &[u8], d: Desk) -> Desk {

@@ -2,6 +2,7 @@
 use codec::number;
 use codec::signed;
 use libc::STDIN_FILENO;
+use outage::Entry;
 use settlement::Period;
 ghost use Prim.Native.Nat.{_<_, _≤_};
 ghost use Rattle.io.specs.Counts.{Counts};
@@ -34,11 +35,6 @@ pub(crate) fn u32_at(s: &[u8], at: usize) -> u32 {
     (number(s, at, 4) % 4_294_967_296) as u32
 }
 
-// The number of eight bytes from `at` on.
-pub(crate) fn u64_at(s: &[u8], at: usize) -> u64 {
-    number(s, at, 8)
-}
-
 // The signed number of eight bytes from `at` on.
 pub(crate) fn i64_at(s: &[u8], at: usize) -> i64 {
     signed(number(s, at, 8))
@@ -49,6 +45,15 @@ pub(crate) fn period_at(s: &[u8], first: usize, last: usize) -> Period {
     Period {
         first: u32_at(s, first),
         last: u32_at(s, last),
+    }
+}
+
+// An entry: its start, its end and its MW from these places on.
+pub(crate) fn entry_at(s: &[u8], start: usize, end: usize, mw: usize) -> Entry {
+    Entry {
+        start: u32_at(s, start),
+        end: u32_at(s, end),
+        mw: u16_at(s, mw),
     }
 }
 

@@ -1,16 +1,15 @@
 // What stands is set to anything, in range or not.
 use super::calls::Desk;
 use super::fields::KEPT;
+use super::fields::entry_at;
 use super::fields::i64_at;
 use super::fields::least;
 use super::fields::u8_at;
 use super::fields::u16_at;
 use super::fields::u32_at;
-use super::fields::u64_at;
 use super::say;
 use codec::number;
 use levels::Book;
-use outage::Entry;
 use outage::Log;
 use year::Line;
 use year::Year;
@@ -51,11 +50,8 @@ pub(crate) fn slot(s: &[u8], d: Desk) -> Desk {
         return d;
     }
     let mut log = d.log;
-    log.entries[i] = Entry {
-        start: u32_at(s, 2),
-        end: u32_at(s, 6),
-        mw: u16_at(s, 10),
-    };
+    let e = entry_at(s, 2, 6, 10);
+    log.entries[i] = e;
     say::set();
     with_log(d, log)
 }
@@ -63,7 +59,7 @@ pub(crate) fn slot(s: &[u8], d: Desk) -> Desk {
 // The log's count and regime end.
 pub(crate) fn count(s: &[u8], d: Desk) -> Desk {
     let mut log = d.log;
-    log.count = u64_at(s, 0) as usize;
+    log.count = number(s, 0, 8) as usize;
     log.regime_end = u32_at(s, 8);
     say::set();
     with_log(d, log)
@@ -103,7 +99,7 @@ fn year_at(s: &[u8], y: Year) -> Year {
         pyc: u16_at(s, 12),
         pyf: u16_at(s, 14),
         lines,
-        line_count: u64_at(s, 25) as usize,
+        line_count: number(s, 25, 8) as usize,
         exceptional: u8_at(s, 16) == 1,
         within: i64_at(s, 17),
         log,
@@ -119,6 +115,14 @@ pub(crate) fn year(s: &[u8], d: Desk) -> Desk {
     with_year(d, year_at(s, y))
 }
 
+fn line_at(s: &[u8]) -> Line {
+    Line {
+        kind: u8_at(s, 2),
+        currency: u8_at(s, 3),
+        amount: i64_at(s, 4),
+    }
+}
+
 // A line slot of a year.
 pub(crate) fn line(s: &[u8], d: Desk) -> Desk {
     let i = number(s, 1, 1) as usize;
@@ -126,11 +130,8 @@ pub(crate) fn line(s: &[u8], d: Desk) -> Desk {
         return d;
     }
     let mut y = year_of(d);
-    y.lines[i] = Line {
-        kind: u8_at(s, 2),
-        currency: u8_at(s, 3),
-        amount: i64_at(s, 4),
-    };
+    let l = line_at(s);
+    y.lines[i] = l;
     say::set();
     with_year(d, y)
 }

@@ -35,7 +35,8 @@ fn more_of_line(sum: u64, l: Line) -> u64 {
     )
 }
 
-fn more_of_log(sum: u64, log: Log) -> u64 {
+// The log, after what is summed already.
+pub(crate) fn more_of_log(sum: u64, log: Log) -> u64 {
     let mut next = sum;
     let mut i: usize = 0;
     while i < Log::SLOTS {
@@ -55,10 +56,6 @@ fn more_of_lines(sum: u64, lines: [Line; Year::LINES]) -> u64 {
         i += 1;
     }
     next
-}
-
-pub(crate) fn of_log(log: Log) -> u64 {
-    more_of_log(0, log)
 }
 
 pub(crate) fn of_year(y: Year) -> u64 {
