@@ -1,13 +1,10 @@
 // The calls on log, book and year, each with its answer.
-use super::calls::Desk;
 use super::fields::entry_at;
 use super::fields::i64_at;
 use super::fields::period_at;
 use super::fields::u8_at;
 use super::fields::u32_at;
 use super::say;
-use super::setting::with_log;
-use super::setting::year_of;
 use super::sums;
 use assessment::assess_period;
 use balances::Assessment;
@@ -39,28 +36,38 @@ use settlement::pay;
 use year::Year;
 ghost use Prim.Native.Nat.{_≤_};
 
-fn logged(done: Logged, d: Desk) -> Desk {
+// Says what a call on the log gave: the number, the count and the log's sum.
+fn logged(done: Logged) -> Log {
     let answer = done.answer;
     let log = done.log;
-    say::two(answer.number(), log.count as u64, sums::more_of_log(0, log));
-    with_log(d, log)
+    let mut sum: u64 = 0;
+    let mut i: usize = 0;
+    while i < Log::SLOTS {
+        let e = log.entries[i];
+        sum = sums::more_of_entry(sum, e);
+        i += 1;
+    }
+    say::two(
+        answer.number(),
+        log.count as u64,
+        sums::more_of_ends(sum, log.count, log.regime_end),
+    );
+    log
 }
 
-pub(crate) fn empty(s: &[u8], d: Desk) -> Desk {
-    logged(Log::empty(u32_at(s, 0)), d)
+pub(crate) fn empty(s: &[u8]) -> Log {
+    logged(Log::empty(u32_at(s, 0)))
 }
 
-pub(crate) fn enter(s: &[u8], d: Desk) -> Desk {
-    let log = d.log;
-    logged(outage::enter(log, entry_at(s, 0, 4, 8)), d)
+pub(crate) fn enter(s: &[u8], log: Log) -> Log {
+    logged(outage::enter(log, entry_at(s, 0, 4, 8)))
 }
 
-pub(crate) fn cancel(s: &[u8], d: Desk) -> Desk {
-    let log = d.log;
+pub(crate) fn cancel(s: &[u8], log: Log) -> Log {
     let key = Key {
         start: u32_at(s, 0),
     };
-    logged(outage::cancel(log, key), d)
+    logged(outage::cancel(log, key))
 }
 
 pub(crate) fn lost(s: &[u8], log: Log) -> bool {
@@ -96,10 +103,7 @@ pub(crate) fn target(s: &[u8], book: Book, log: Log) -> bool {
     }
 }
 
-pub(crate) fn levels(d: Desk) -> bool {
-    let book = d.book;
-    let y = year_of(d);
-    let log = d.log;
+pub(crate) fn levels(book: Book, y: Year, log: Log) -> bool {
     let found = levels_of(book, y, log);
     match found {
         Levels::Pounds { cap, floor } => say::amounts(0, cap, floor),
@@ -187,10 +191,7 @@ pub(crate) fn rows(s: &[u8]) -> bool {
     answer(assess(rows_at(s)))
 }
 
-pub(crate) fn period(d: Desk) -> bool {
-    let book = d.book;
-    let years = d.years;
-    let log = d.log;
+pub(crate) fn period(book: Book, years: [Year; 5], log: Log) -> bool {
     answer(assess_period(book, years, log))
 }
 

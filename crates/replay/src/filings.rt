@@ -1,13 +1,10 @@
 // Returns read and written.
-use super::calls::Desk;
 use super::fields::KEPT;
 use super::fields::held;
 use super::fields::u16_at;
 use super::fields::u32_at;
 use super::say;
-use super::setting::with_year;
 use super::sums;
-use codec::number;
 use printout::print_return;
 use reading::read_return;
 use writing::Written;
@@ -16,29 +13,26 @@ use year::Year;
 ghost use mathlib.Core.Path.{_≡_};
 ghost use lib.ListN.{length};
 
-// A return read into a year.
-fn read_into(s: &[u8], d: Desk) -> Desk {
+// A return read: the year that it gives.
+fn read_all(s: &[u8]) -> Year {
     let read = read_return(s);
     let answer = read.answer;
     let y = read.year;
     say::two(answer.number(), read.place as u64, sums::of_year(y));
-    with_year(d, y)
+    y
 }
 
-pub(crate) fn read(s: &[u8], d: Desk) -> Desk {
+pub(crate) fn read(s: &[u8]) -> Year {
     if s.len() < 1 {
-        return d;
+        return Year::fresh();
     }
-    if 4 < number(s, 0, 1) {
-        return d;
-    }
-    read_into(&s[1..], d)
+    read_all(&s[1..])
 }
 
-pub(crate) fn read_kept(kept: &[u8; KEPT], d: Desk) -> Desk {
+pub(crate) fn read_kept(kept: &[u8; KEPT], bytes: usize) -> Year {
     let all: &[u8] = kept;
-    let n = held(d.kept, all);
-    read_into(&all[..n], d)
+    let n = held(bytes, all);
+    read_all(&all[..n])
 }
 
 // Every byte of a lent buffer as it is before a call.
@@ -121,9 +115,9 @@ fn again(s: &[u8], room: u32) -> bool {
     refiled(s, &mut space[..n])
 }
 
-pub(crate) fn refile_kept(s: &[u8], kept: &[u8; KEPT], d: Desk) -> bool {
+pub(crate) fn refile_kept(s: &[u8], kept: &[u8; KEPT], bytes: usize) -> bool {
     let all: &[u8] = kept;
-    let n = held(d.kept, all);
+    let n = held(bytes, all);
     again(&all[..n], u32_at(s, 0))
 }
 

@@ -8,12 +8,14 @@ mod setting;
 mod showing;
 mod sums;
 
-use calls::Desk;
-use calls::carry_out;
+use calls::ask;
+use calls::listed;
 use fields::KEPT;
 use fields::ROOM;
 use fields::least;
+use fields::of_year;
 use fields::u8_at;
+use fields::year_at;
 use levels::Book;
 use outage::Log;
 use year::Year;
@@ -26,32 +28,19 @@ fn after(place: u64, length: usize) -> u64 {
     place + 3 + least(length, ROOM) as u64
 }
 
-// Puts the bytes of a value behind those that are kept.
-fn keep(kept: &mut [u8; KEPT], from: usize, to: usize, s: &[u8]) {
-    let end = least(to, KEPT);
-    let mut i = from;
+// Puts the bytes of a value behind those that are kept, as far as there is room, and says how many there are.
+fn keep(kept: &mut [u8; KEPT], bytes: usize, s: &[u8]) -> usize {
+    let start = least(bytes, KEPT);
+    let end = least(start + least(s.len(), ROOM), KEPT);
+    let mut i = start;
     let mut j: usize = 0;
     while i < end {
         kept[i] = u8_at(s, j);
         i += 1;
         j += 1;
     }
-}
-
-// What stands at the start.
-fn start() -> Desk {
-    let made = Log::empty(Log::LAST_REGIME_END);
-    let log = made.log;
-    let book = Book::published();
-    let years = [Year::fresh(); 5];
-    Desk {
-        log,
-        book,
-        years,
-        kept: 0,
-        k: 0,
-        done: false,
-    }
+    say::set();
+    end
 }
 
 // The last line, where the script ends by a field that is no call.
@@ -61,22 +50,47 @@ fn stop(call: u64, place: u64) {
     }
 }
 
-fn main() {
+// The calls that change something, a line each as in `calls`; those that ask stand there.
+fn carry_out(mut log: Log, mut book: Book, mut years: [Year; 5]) {
     let mut space = [0u8; ROOM];
     let mut kept = [0u8; KEPT];
-    let mut desk = start();
+    let mut bytes: usize = 0;
     let mut place: u64 = 0;
     let mut left: u64 = 18_446_744_073_709_551_615;
     while 0 < left {
         left -= 1;
         let field = fields::take(&mut space);
         let s = &space[..field.length];
-        let next = carry_out(field.call, s, &kept, desk);
-        keep(&mut kept, desk.kept, next.kept, s);
-        if !next.done {
-            return stop(field.call, place);
+        let call = listed(field.call, s);
+        let k = year_at(s);
+        match call {
+            1_00004 => log = asking::empty(s),
+            2_00010 => log = asking::enter(s, log),
+            3_00004 => log = asking::cancel(s, log),
+            32_00012 => log = setting::slot(s, log),
+            33_00012 => log = setting::count(s, log),
+            34_00062 => book = setting::book(s),
+            40 => bytes = keep(&mut kept, bytes, s),
+            41_00000 => bytes = setting::forget(),
+            _ => match of_year(call, s) {
+                17 => years[k] = filings::read(s),
+                21_00001 => years[k] = filings::read_kept(&kept, bytes),
+                35_00033 => years[k] = setting::year(s, years[k]),
+                36_00012 => years[k] = setting::line(s, years[k]),
+                37_00001 => years[k] = setting::fresh(),
+                38_00001 => years[k] = setting::log_of(years[k], log),
+                39_00001 => log = setting::log_from(years[k]),
+                _ => if !ask(call, s, &kept, bytes, book, years, years[k], log) {
+                    return stop(call, place);
+                }
+            }
         }
-        desk = next;
         place = after(place, field.length);
     }
+}
+
+fn main() {
+    let made = Log::empty(Log::LAST_REGIME_END);
+    let log = made.log;
+    carry_out(log, Book::published(), [Year::fresh(); 5]);
 }

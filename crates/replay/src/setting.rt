@@ -1,9 +1,6 @@
 // What stands is set to anything, in range or not.
-use super::calls::Desk;
-use super::fields::KEPT;
 use super::fields::entry_at;
 use super::fields::i64_at;
-use super::fields::least;
 use super::fields::u8_at;
 use super::fields::u16_at;
 use super::fields::u32_at;
@@ -14,55 +11,21 @@ use outage::Log;
 use year::Line;
 use year::Year;
 
-// The desk after a call that gave this log, this year.
-pub(crate) fn with_log(mut d: Desk, log: Log) -> Desk {
-    d.log = log;
-    d.done = true;
-    d
-}
-
-pub(crate) fn with_year(mut d: Desk, y: Year) -> Desk {
-    let mut years = d.years;
-    let k = d.k % 5;
-    years[k] = y;
-    d.years = years;
-    d.done = true;
-    d
-}
-
-// The year that the call names.
-pub(crate) fn year_of(d: Desk) -> Year {
-    let years = d.years;
-    let k = d.k % 5;
-    years[k]
-}
-
-fn with_kept(mut d: Desk, kept: usize) -> Desk {
-    d.kept = kept;
-    d.done = say::set();
-    d
-}
-
 // A slot of the log.
-pub(crate) fn slot(s: &[u8], d: Desk) -> Desk {
-    let i = number(s, 0, 2) as usize;
-    if Log::SLOTS <= i {
-        return d;
-    }
-    let mut log = d.log;
+pub(crate) fn slot(s: &[u8], mut log: Log) -> Log {
+    let i = (number(s, 0, 2) % 400) as usize;
     let e = entry_at(s, 2, 6, 10);
     log.entries[i] = e;
     say::set();
-    with_log(d, log)
+    log
 }
 
 // The log's count and regime end.
-pub(crate) fn count(s: &[u8], d: Desk) -> Desk {
-    let mut log = d.log;
+pub(crate) fn count(s: &[u8], mut log: Log) -> Log {
     log.count = number(s, 0, 8) as usize;
     log.regime_end = u32_at(s, 8);
     say::set();
-    with_log(d, log)
+    log
 }
 
 // The book.
@@ -81,10 +44,9 @@ fn book_at(s: &[u8]) -> Book {
     }
 }
 
-pub(crate) fn book(s: &[u8], mut d: Desk) -> Desk {
-    d.book = book_at(s);
-    d.done = say::set();
-    d
+pub(crate) fn book(s: &[u8]) -> Book {
+    say::set();
+    book_at(s)
 }
 
 // A year, but for its lines and its log.
@@ -106,13 +68,9 @@ fn year_at(s: &[u8], y: Year) -> Year {
     }
 }
 
-pub(crate) fn year(s: &[u8], d: Desk) -> Desk {
-    if 1 < number(s, 16, 1) {
-        return d;
-    }
-    let y = year_of(d);
+pub(crate) fn year(s: &[u8], y: Year) -> Year {
     say::set();
-    with_year(d, year_at(s, y))
+    year_at(s, y)
 }
 
 fn line_at(s: &[u8]) -> Line {
@@ -124,48 +82,34 @@ fn line_at(s: &[u8]) -> Line {
 }
 
 // A line slot of a year.
-pub(crate) fn line(s: &[u8], d: Desk) -> Desk {
-    let i = number(s, 1, 1) as usize;
-    if Year::LINES <= i {
-        return d;
-    }
-    let mut y = year_of(d);
+pub(crate) fn line(s: &[u8], mut y: Year) -> Year {
+    let i = (number(s, 1, 1) % 64) as usize;
     let l = line_at(s);
     y.lines[i] = l;
     say::set();
-    with_year(d, y)
+    y
 }
 
-pub(crate) fn fresh(d: Desk) -> Desk {
+pub(crate) fn fresh() -> Year {
     say::set();
-    with_year(d, Year::fresh())
+    Year::fresh()
 }
 
 // A year with the log that stands.
-pub(crate) fn log_of(d: Desk) -> Desk {
-    let mut y = year_of(d);
-    let log = d.log;
+pub(crate) fn log_of(mut y: Year, log: Log) -> Year {
     y.log = log;
     say::set();
-    with_year(d, y)
+    y
 }
 
 // The log of a year.
-pub(crate) fn log_from(d: Desk) -> Desk {
-    let y = year_of(d);
-    let log = y.log;
+pub(crate) fn log_from(y: Year) -> Log {
     say::set();
-    with_log(d, log)
-}
-
-// More bytes are kept, as far as there is room.
-pub(crate) fn keep(s: &[u8], d: Desk) -> Desk {
-    let left = KEPT - least(d.kept, KEPT);
-    let more = least(s.len(), left);
-    with_kept(d, KEPT - left + more)
+    y.log
 }
 
 // No bytes are kept.
-pub(crate) fn forget(d: Desk) -> Desk {
-    with_kept(d, 0)
+pub(crate) fn forget() -> usize {
+    say::set();
+    0
 }

@@ -46,24 +46,29 @@ fn lines(rows: [Line; Year::LINES]) {
     }
 }
 
-fn mark(exceptional: bool) {
+// A year's number, index, rate and factors.
+fn factors(number: u8, pppi: u32, rate: u32, aic: u16, pyc: u16, pyf: u16) {
+    say::number(number);
+    say::figure_32(pppi);
+    say::figure_32(rate);
+    say::figure_16(aic);
+    say::figure_16(pyc);
+    say::figure_16(pyf);
+}
+
+// Its line count, its mark and W.
+fn rest(line_count: usize, exceptional: bool, within: i64) {
+    say::figure(line_count as u64);
     say::figure(if exceptional { 1 } else { 0 });
+    say::pounds(within);
 }
 
 // A year.
 pub(crate) fn year(y: Year) -> bool {
-    let within = y.within;
     let rows = y.lines;
     let held = y.log;
-    say::number(y.number);
-    say::figure_32(y.pppi);
-    say::figure_32(y.rate);
-    say::figure_16(y.aic);
-    say::figure_16(y.pyc);
-    say::figure_16(y.pyf);
-    say::figure(y.line_count as u64);
-    mark(y.exceptional);
-    say::pounds(within);
+    factors(y.number, y.pppi, y.rate, y.aic, y.pyc, y.pyf);
+    rest(y.line_count, y.exceptional, y.within);
     lines(rows);
     say::figure(held.count as u64);
     say::figure_32(held.regime_end);

@@ -23,7 +23,8 @@ fn more_wide(sum: u64, x: u64) -> u64 {
     more(more(sum, high), low)
 }
 
-fn more_of_entry(sum: u64, e: Entry) -> u64 {
+// An entry more.
+pub(crate) fn more_of_entry(sum: u64, e: Entry) -> u64 {
     more(more(more(sum, e.start), e.end), e.mw as u32)
 }
 
@@ -35,8 +36,13 @@ fn more_of_line(sum: u64, l: Line) -> u64 {
     )
 }
 
+// A log's count and regime end more, after its slots.
+pub(crate) fn more_of_ends(sum: u64, count: usize, regime_end: u32) -> u64 {
+    more(more_wide(sum, count as u64), regime_end)
+}
+
 // The log, after what is summed already.
-pub(crate) fn more_of_log(sum: u64, log: Log) -> u64 {
+fn more_of_log(sum: u64, log: Log) -> u64 {
     let mut next = sum;
     let mut i: usize = 0;
     while i < Log::SLOTS {
@@ -44,7 +50,7 @@ pub(crate) fn more_of_log(sum: u64, log: Log) -> u64 {
         next = more_of_entry(next, e);
         i += 1;
     }
-    more(more_wide(next, log.count as u64), log.regime_end)
+    more_of_ends(next, log.count, log.regime_end)
 }
 
 fn more_of_lines(sum: u64, lines: [Line; Year::LINES]) -> u64 {
@@ -58,21 +64,28 @@ fn more_of_lines(sum: u64, lines: [Line; Year::LINES]) -> u64 {
     next
 }
 
+// A year's number, index, rate and factors.
+fn of_factors(number: u8, pppi: u32, rate: u32, aic: u16, pyc: u16, pyf: u16) -> u64 {
+    let first = more(more(more(0, number as u32), pppi), rate);
+    more(more(more(first, aic as u32), pyc as u32), pyf as u32)
+}
+
+// Its line count, its mark and W more.
+fn more_of_rest(sum: u64, line_count: usize, exceptional: bool, within: i64) -> u64 {
+    let mark = if exceptional { 1 } else { 0 };
+    more_wide(
+        more(more_wide(sum, line_count as u64), mark),
+        unsigned(within),
+    )
+}
+
 pub(crate) fn of_year(y: Year) -> u64 {
     let lines = y.lines;
     let log = y.log;
-    let within = y.within;
-    let mut sum = more(0, y.number as u32);
-    sum = more(sum, y.pppi);
-    sum = more(sum, y.rate);
-    sum = more(sum, y.aic as u32);
-    sum = more(sum, y.pyc as u32);
-    sum = more(sum, y.pyf as u32);
-    sum = more_of_lines(sum, lines);
-    sum = more_wide(sum, y.line_count as u64);
-    sum = more(sum, if y.exceptional { 1 } else { 0 });
-    sum = more_wide(sum, unsigned(within));
-    more_of_log(sum, log)
+    let sum = of_factors(y.number, y.pppi, y.rate, y.aic, y.pyc, y.pyf);
+    let lined = more_of_lines(sum, lines);
+    let rest = more_of_rest(lined, y.line_count, y.exceptional, y.within);
+    more_of_log(rest, log)
 }
 
 pub(crate) fn of_bytes(s: &[u8]) -> u64 {

@@ -30,11 +30,8 @@ loop-less c = search needs
 loop-again : tie.Need-loop-again Inv-loop μ-loop
 loop-again c = search needs
 
-more-wide-requires : tie.Need-more-wide-requires Inv-loop μ-loop
-more-wide-requires c κs = search needs
-
-more-requires : tie.Need-more-requires Inv-loop μ-loop
-more-requires c κs = search needs
+more-of-ends-requires : tie.Need-more-of-ends-requires Inv-loop μ-loop
+more-of-ends-requires c κs = search needs
 
 returns : tie.Need-returns Inv-loop μ-loop
 returns c = search needs
@@ -52,6 +49,5 @@ more-of-log-spec =
     add-i
     loop-less
     loop-again
-    more-wide-requires
-    more-requires
+    more-of-ends-requires
     returns)
