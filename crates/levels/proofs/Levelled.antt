@@ -4,7 +4,6 @@ use mathlib.Core.Bool.{Bool, true, false, cond, not, _&&_}
 use mathlib.Core.List.{[], _∷_}
 use Prim.Native.Nat.{ℕ, _<_}
 use native.Mathlib.Omega.{arith}
-use borrow.Author.Tests.{eq-eqb}
 use lib.IntN.{ℤ, pos}
 use Rattle.lists.proofs.Tests.{not-no}
 use Rattle.refusals.specs.declared.Refusal.{Refusal}
@@ -12,7 +11,7 @@ use Rattle.refusals.specs.declared.Refusal.the-variants.{BadBook, BrokenLog, Ba
 use Rattle.refusals.specs.declared.Answer.{Answer}
 use Rattle.refusals.specs.declared.Answer.the-variants as answer
 use Rattle.refusals.specs.Refusals.{lowest, accepted, numberOf, answerNumber}
-use Rattle.refusals.proofs.Laws.{all-clear, never-zero, refused-not}
+use Rattle.refusals.proofs.Laws.{all-clear, beside-accepted, never-zero, refused-not}
 use Rattle.calendar.specs.Years.{goodYear}
 use Rattle.outage.specs.declared.Log.{Log}
 use Rattle.outage.specs.Log.{validLog}
@@ -56,9 +55,13 @@ module _ (book : Book) (y : Year) (log : Log) where
       (g .0 ∙ same-stop b (validLog log) n (goodYearRecord y) t (λ e. year-says y e .number) (omega (arith, never-zero why)))
 
 -- ---- the target is told, and what the check of the year answers
-module _ (book : Book) (y : Year) (log : Log) (t : Target) (g : TargetGives book log (y .number) t) (z : targetNumber t ≡ 0) where
+pub record Told (book : Book) (y : Year) (log : Log) (t : Target) : Type 0 where
+  pub gives : TargetGives book log (y .number) t
+  pub clear : targetNumber t ≡ 0
+
+module _ {book : Book} {y : Year} {log : Log} {t : Target} (told : Told book y log t) where
   rows-clear : lowest (availabilityRows book log (y .number)) ≡ 0
-  rows-clear = sym (g .0) ∙ z
+  rows-clear = sym (told .gives .0) ∙ told .clear
 
   pub held : bookHolds book (log .«regime_end») ≡ true
   held = not-no (bookHolds book (log .«regime_end»)) (all-clear (availabilityRows book log (y .number)) rows-clear .0)
@@ -71,7 +74,7 @@ module _ (book : Book) (y : Year) (log : Log) (t : Target) (g : TargetGives book
 
   pub met-is : targetMet t ≡ meetsTarget book log (y .number)
   met-is =
-      g .1 ∙ ap (λ (b : Bool). cond b (meetsTarget book log (y .number)) false) (eq-eqb (lowest (availabilityRows book log (y .number))) 0 rows-clear)
+      beside-accepted (availabilityRows book log (y .number)) (targetNumber t) (targetMet t) (meetsTarget book log (y .number)) false (told .gives .0) (told .gives .1) (told .clear)
 
   -- the year is refused
   pub gives-no-year : (a : Answer) (why : Refusal) → CheckGives y a → a ≡ answer.Refused why → LevelsGives book y log (levels.Refused why)

@@ -1,35 +1,36 @@
--- What the availability of a year and its target come to, from what the calls made on the way answer. Assumes nothing.
-use mathlib.Core.Path.{_≡_, refl, sym, ap, _∙_}
-use mathlib.Core.Bool.{Bool, true, false, cond, not}
+-- What the availability of a year and its target come to, from what the calendar and the log answered. Assumes nothing.
+use mathlib.Core.Path.{_≡_, refl, sym, ap, subst, _∙_}
+use mathlib.Core.Bool.{Bool, true, false, not}
 use mathlib.Core.List.{[]}
-use Prim.Native.Nat.{ℕ, _-_, _*_, _≤_}
+use Prim.Native.Nat.{ℕ, _≤_}
 use native.Mathlib.Omega.{arith}
-use borrow.Author.Tests.{leb-true, eq-eqb}
-use lib.Dec.{leb, eqb}
+use borrow.Author.Tests.{leb-true}
+use lib.Dec.{leb}
 use Rattle.lists.proofs.Tests.{and-left, and-right, not-no, not-yes}
 use Rattle.refusals.specs.declared.Refusal.{Refusal}
-use Rattle.refusals.specs.declared.Refusal.the-variants.{BadBook, BrokenLog, BadYear}
-use Rattle.refusals.specs.declared.Answer.the-variants as answer
-use Rattle.refusals.specs.Refusals.{lowest, accepted}
-use Rattle.refusals.proofs.Laws.{all-clear, refused-not, last-row}
+use Rattle.refusals.specs.declared.Refusal.the-variants.{BadYear}
+use Rattle.refusals.proofs.Laws.{all-clear, last-row, beside-accepted}
+use Rattle.refusals.proofs.Cases.{found-meets, refused-meets}
 use Rattle.calendar.specs.declared.YearMinutes.{YearMinutes}
 use Rattle.calendar.specs.declared.YearMinutes.the-variants as minutes
-use Rattle.calendar.specs.Years.{yearStart, yearEnd, lastYear, goodYear, yearRows, firstOf, endOf, minutesNumber, MinutesGives}
+use Rattle.calendar.specs.Years.{yearStart, yearEnd, lastYear, goodYear, yearRows, firstFigure, endFigure, MinutesGives}
 use Rattle.calendar.proofs.Laws.{year-within}
 use Rattle.outage.specs.declared.Log.{Log}
 use Rattle.outage.specs.declared.losing.LostEnergy.{LostEnergy}
 use Rattle.outage.specs.declared.losing.LostEnergy.the-variants as lost
-use Rattle.outage.specs.Log.{mostMw, firstRegimeEnd, lastRegimeEnd, validLog, live, lostEnergy}
+use Rattle.outage.specs.Log.{firstRegimeEnd, lastRegimeEnd, validLog, live, lostEnergy}
 use Rattle.outage.specs.Calls.{lostRows, lostNumber, LostGives}
 use Rattle.outage.proofs.Holding.{valid-end}
 use Rattle.outage.proofs.Only.{only-lost}
-use Rattle.outage.proofs.Most.{lost-given}
+use Rattle.outage.proofs.Most.{lost-given, valid-stretch}
 use Rattle.levels.specs.declared.Book.{Book}
+use Rattle.levels.specs.declared.measuring.Availability.{Availability}
 use Rattle.levels.specs.declared.measuring.Availability.the-variants as availability
 use Rattle.levels.specs.declared.measuring.Target.{Target}
-use Rattle.levels.specs.declared.measuring.Target.the-variants as target
-use Rattle.levels.specs.Book.{bookHolds, targetOf}
-use Rattle.levels.specs.Availability.{availabilityIn, meetsTarget, availabilityRows, targetNumber, targetMet, AvailabilityGives, TargetGives}
+use Rattle.levels.specs.Book.{bookHolds}
+use Rattle.levels.specs.Availability.{availabilityIn, meetsTarget, availabilityRows, AvailabilityGives, TargetGives}
+use Rattle.levels.specs.Steps.{LostWithin, measuredOf, testedOf}
+use Rattle.levels.proofs.Only.{target-answers}
 
 -- ---- a year in a valid log
 late : (log : Log) → validLog log ≡ true → firstRegimeEnd ≤ log .«regime_end»
@@ -37,42 +38,40 @@ late log v =
     let re = log .«regime_end» in
     leb-true firstRegimeEnd re (and-left (leb firstRegimeEnd re) (leb re lastRegimeEnd) (valid-end log v))
 
-year-fits : (log : Log) (number : ℕ) → validLog log ≡ true → goodYear number ≡ true → (yearStart number ≤ yearEnd number (log .«regime_end»)) × (yearEnd number (log .«regime_end») ≤ log .«regime_end»)
-year-fits log number v g =
-    year-within (log .«regime_end») number (omega (arith, late log v))
-    (leb-true 1 number (and-left (leb 1 number) (leb number lastYear) g))
-    (leb-true number lastYear (and-right (leb 1 number) (leb number lastYear) g))
+span-is : (number regimeEnd : ℕ) {first end : ℕ} → MinutesGives number regimeEnd (minutes.Span first end)
+    → (goodYear number ≡ true) × (first ≡ yearStart number) × (end ≡ yearEnd number regimeEnd)
+span-is number regimeEnd g =
+    let y : goodYear number ≡ true = not-no (goodYear number) (all-clear (yearRows number) (sym (g .0)) .0) in
+    (y, g .1 ∙ simp y, g .2 ∙ simp y)
 
--- the stretch that the calendar answers with, from 0 to 0 beside a refusal
-pub asked-fits : (log : Log) (number : ℕ) → validLog log ≡ true → (firstOf number ≤ endOf number (log .«regime_end»)) × (endOf number (log .«regime_end») ≤ log .«regime_end»)
-asked-fits log number v = by (goodYear number) refl
-  where
-    by : (b : Bool) → goodYear number ≡ b
-        → (cond (eqb (cond (not b) 9 0) 0) (yearStart number) 0 ≤ cond (eqb (cond (not b) 9 0) 0) (yearEnd number (log .«regime_end»)) 0)
-        × (cond (eqb (cond (not b) 9 0) 0) (yearEnd number (log .«regime_end»)) 0 ≤ log .«regime_end»)
-    by true g = year-fits log number v g
-    by false g = (omega arith, omega arith)
+-- the minutes that the calendar answers with, from 0 to 0 beside a refusal
+stretch : (log : Log) (number : ℕ) (m : YearMinutes) → MinutesGives number (log .«regime_end») m → validLog log ≡ true → (firstFigure m ≤ endFigure m) × (endFigure m ≤ log .«regime_end»)
+stretch log number (minutes.Refused why) g v = (omega arith, omega arith)
+stretch log number (minutes.Span first end) g v =
+    let s = span-is number (log .«regime_end») g in
+    rw (s .1, s .2)
+    (year-within (log .«regime_end») number (omega (arith, late log v))
+    (leb-true 1 number (and-left (leb 1 number) (leb number lastYear) (s .0)))
+    (leb-true number lastYear (and-right (leb 1 number) (leb number lastYear) (s .0))))
 
--- ---- what the calendar's answer says of the year
-module _ (number regimeEnd : ℕ) (m : YearMinutes) (g : MinutesGives number regimeEnd m) where
-  pub span-good : (first end : ℕ) → m ≡ minutes.Span first end → goodYear number ≡ true
-  span-good first end e = not-no (goodYear number) (all-clear (yearRows number) (sym (g .0) ∙ ap minutesNumber e) .0)
+-- ---- what the calendar and the log answered for a year
+pub record Asked (log : Log) (number : ℕ) (m : YearMinutes) (l : LostEnergy) : Type 0 where
+  pub minutes : MinutesGives number (log .«regime_end») m
+  pub lost : LostGives log (firstFigure m) (endFigure m) l
 
-  pub minutes-bad : (why : Refusal) → m ≡ minutes.Refused why → (goodYear number ≡ false) × (why ≡ BadYear)
-  minutes-bad why e =
-      let k = last-row [] BadYear why (not (goodYear number)) tt (sym (ap minutesNumber e) ∙ g .0) in
-      (not-yes (goodYear number) (k .0), k .1)
+pub asked : {log : Log} {number : ℕ} {m : YearMinutes} {l : LostEnergy} {first end : ℕ} → MinutesGives number (log .«regime_end») m → first ≡ firstFigure m → end ≡ endFigure m
+    → LostGives log first end l → Asked log number m l
+asked g f e h = record { minutes = g; lost = rw (f, e) at h }
 
--- ---- what the lost-energy call's answer says of the log
-module _ (log : Log) (number : ℕ) (r : LostEnergy) (g : LostGives log (firstOf number) (endOf number (log .«regime_end»)) r) where
-  lost-is : validLog log ≡ true → r ≡ lost.MwMinutes (lostEnergy (firstOf number) (endOf number (log .«regime_end»)) (live log))
+module _ {log : Log} {number : ℕ} {m : YearMinutes} {l : LostEnergy} (a : Asked log number m l) where
+  lost-is : validLog log ≡ true → l ≡ lost.MwMinutes (lostEnergy (firstFigure m) (endFigure m) (live log))
   lost-is v =
-      let a = firstOf number in
-      let b = endOf number (log .«regime_end») in
-      only-lost log a b r (lost.MwMinutes (lostEnergy a b (live log))) g (lost-given log a b v (asked-fits log number v .0) (asked-fits log number v .1))
+      let s = stretch log number m (a .minutes) v in
+      only-lost log (firstFigure m) (endFigure m) l (lost.MwMinutes (lostEnergy (firstFigure m) (endFigure m) (live log))) (a .lost)
+      (lost-given log (firstFigure m) (endFigure m) v (s .0) (s .1))
 
-  -- a refusal, that it is broken
-  pub lost-refused : (why : Refusal) → r ≡ lost.Refused why → validLog log ≡ false
+  -- a refusal says that the log is broken
+  lost-refused : (why : Refusal) → l ≡ lost.Refused why → validLog log ≡ false
   lost-refused why e = by (validLog log) refl
     where
       by : (b : Bool) → validLog log ≡ b → b ≡ false
@@ -80,44 +79,37 @@ module _ (log : Log) (number : ℕ) (r : LostEnergy) (g : LostGives log (firstOf
       by false v = refl
 
   -- a figure, that it is valid, and that the figure is the energy lost
-  pub lost-valid : (x : ℕ) → r ≡ lost.MwMinutes x → validLog log ≡ true
-  lost-valid x e =
-      not-no (validLog log) (all-clear (lostRows log (firstOf number) (endOf number (log .«regime_end»))) (sym (g .0) ∙ ap lostNumber e) .0)
+  lost-valid : (x : ℕ) → l ≡ lost.MwMinutes x → validLog log ≡ true
+  lost-valid x e = not-no (validLog log) (all-clear (lostRows log (firstFigure m) (endFigure m)) (sym (a .lost .0) ∙ ap lostNumber e) .0)
 
-  pub lost-figure : (x : ℕ) → r ≡ lost.MwMinutes x → x ≡ lostEnergy (firstOf number) (endOf number (log .«regime_end»)) (live log)
+  lost-figure : (x : ℕ) → l ≡ lost.MwMinutes x → x ≡ lostEnergy (firstFigure m) (endFigure m) (live log)
   lost-figure x e = let k = lost-is (lost-valid x e) in cc
 
--- ---- the availability of a year
-pub availability-is : (log : Log) (number x : ℕ) → goodYear number ≡ true → x ≡ lostEnergy (firstOf number) (endOf number (log .«regime_end»)) (live log)
-    → mostMw * (endOf number (log .«regime_end») - firstOf number) - x ≡ availabilityIn log number
-availability-is log number x g e =
-    let first : firstOf number ≡ yearStart number = simp g in
-    let end : endOf number (log .«regime_end») ≡ yearEnd number (log .«regime_end») = simp g in
-    rw (e, first, end)
+  pub lost-within : LostWithin m l
+  lost-within x e = let v = lost-valid x e in (stretch log number m (a .minutes) v .0, rw (lost-figure x e) (valid-stretch log v (firstFigure m) (endFigure m)))
 
-module _ (book : Book) (log : Log) (number : ℕ) where
-  pub gives-bad-book : bookHolds book (log .«regime_end») ≡ false → AvailabilityGives book log number (availability.Refused BadBook)
-  gives-bad-book b = simp b (refl, refl)
+-- ---- the target, from the availability
+tested-by : (book : Book) (log : Log) (number : ℕ) (r : Availability) → AvailabilityGives book log number r → TargetGives book log number (testedOf book number r)
+tested-by book log number (availability.Refused why) g = refused-meets target-answers (availabilityRows book log number) (meetsTarget book log number) why (g .0)
+tested-by book log number (availability.MwMinutes x) g =
+    rw (beside-accepted (availabilityRows book log number) 0 x (availabilityIn log number) 0 (g .0) (g .1) refl)
+    (found-meets target-answers (availabilityRows book log number) (meetsTarget book log number) (sym (g .0)))
 
-  pub gives-broken : bookHolds book (log .«regime_end») ≡ true → validLog log ≡ false → AvailabilityGives book log number (availability.Refused BrokenLog)
-  gives-broken b v = simp (b, v) (refl, refl)
+-- ---- both, from the answers
+module _ (book : Book) {log : Log} {number : ℕ} where
+  measured-by : (b : Bool) (m : YearMinutes) (l : LostEnergy) → bookHolds book (log .«regime_end») ≡ b → Asked log number m l → AvailabilityGives book log number (measuredOf b m l)
+  measured-by false m l h a = simp h (refl, refl)
+  measured-by true m (lost.Refused why) h a = simp (h, lost-refused a why refl) (refl, refl)
+  measured-by true (minutes.Refused why) (lost.MwMinutes x) h a =
+      let k = last-row [] BadYear why (not (goodYear number)) tt (a .minutes .0) in
+      simp (h, lost-valid a x refl, not-yes (goodYear number) (k .0), k .1) (refl, refl)
+  measured-by true (minutes.Span first end) (lost.MwMinutes x) h a =
+      let s = span-is number (log .«regime_end») (a .minutes) in
+      simp (h, lost-valid a x refl, s .0) (refl, rw (lost-figure a x refl, s .1, s .2))
 
-  pub gives-bad-year : bookHolds book (log .«regime_end») ≡ true → validLog log ≡ true → goodYear number ≡ false → AvailabilityGives book log number (availability.Refused BadYear)
-  gives-bad-year b v y = simp (b, v, y) (refl, refl)
+  pub measured-gives : {m : YearMinutes} {l : LostEnergy} → Asked log number m l → (r : Availability) → r ≡ measuredOf (bookHolds book (log .«regime_end»)) m l → AvailabilityGives book log number r
+  measured-gives {m} {l} a r e = subst (AvailabilityGives book log number) (sym e) (measured-by (bookHolds book (log .«regime_end»)) m l refl a)
 
-  pub gives-figure : (x : ℕ) → bookHolds book (log .«regime_end») ≡ true → validLog log ≡ true → goodYear number ≡ true → x ≡ availabilityIn log number → AvailabilityGives book log number (availability.MwMinutes x)
-  gives-figure x b v y e = simp (b, v, y) (refl, e)
-
-  -- ---- the target
-  -- a refusal is passed on
-  pub target-refused : (why : Refusal) → AvailabilityGives book log number (availability.Refused why) → TargetGives book log number (target.Refused why)
-  target-refused why g =
-      (g .0, ap (λ (b : Bool). cond b (meetsTarget book log number) false) (sym (refused-not (answer.Refused why) (availabilityRows book log number) why (g .0) refl)))
-
-  -- a figure is held to the target
-  pub target-told : (x : ℕ) → AvailabilityGives book log number (availability.MwMinutes x) → (t : Target) → targetNumber t ≡ 0 → targetMet t ≡ leb (60 * targetOf book number) x → TargetGives book log number t
-  target-told x g t n e =
-      let rows = availabilityRows book log number in
-      let clear : accepted rows ≡ true = eq-eqb (lowest rows) 0 (sym (g .0)) in
-      let figure : x ≡ availabilityIn log number = g .1 ∙ ap (λ (b : Bool). cond b (availabilityIn log number) 0) clear in
-      (n ∙ g .0, e ∙ ap (λ (k : ℕ). leb (60 * targetOf book number) k) figure ∙ ap (λ (b : Bool). cond b (meetsTarget book log number) false) (sym clear))
+  pub tested-gives : {m : YearMinutes} {l : LostEnergy} → Asked log number m l → (r : Availability) → r ≡ measuredOf (bookHolds book (log .«regime_end»)) m l
+      → (t : Target) → t ≡ testedOf book number r → TargetGives book log number t
+  tested-gives a r e t f = subst (TargetGives book log number) (sym f) (tested-by book log number r (measured-gives a r e))

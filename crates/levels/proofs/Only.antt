@@ -17,6 +17,7 @@ use Rattle.levels.specs.declared.measuring.Target.the-variants as target
 use Rattle.levels.specs.declared.levelling.Levels.{Levels}
 use Rattle.levels.specs.declared.levelling.Levels.the-variants as levels
 use Rattle.levels.specs.Availability.{availabilityIn, availabilityRows, availabilityNumber, availabilityFigure, AvailabilityGives, meetsTarget, targetNumber, targetMet, TargetGives}
+use Rattle.levels.specs.Steps.{toldOf}
 use Rattle.levels.specs.Levels.{capLevel, floorOf, levelsRows, levelsNumber, capFigure, floorFigure, LevelsGives}
 
 -- ---- availability
@@ -43,10 +44,6 @@ pub availability-in-turn : (book : Book) (log : Log) (number : ℕ) → standIn 
 availability-in-turn book log number = refl
 
 -- ---- the target
-abbrev toldOf : Bool → Target
-toldOf true = target.Met
-toldOf false = target.Missed
-
 target-cases : (r : Target) → (r ≡ toldOf (targetMet r)) ⊎ Refusing target.Refused r
 target-cases target.Met = inl refl
 target-cases target.Missed = inl refl

@@ -1,12 +1,15 @@
 // The cap and floor levels of a year.
 use super::Book;
 use super::measuring::Target;
-use super::measuring::check_target;
 use super::measuring::is_met;
+use super::measuring::measured;
 use super::measuring::sum_of;
+use super::measuring::tested;
+use calendar::year_minutes;
 use money::scaled;
 use money::within;
 use outage::Log;
+use outage::lost_energy;
 use refusals::Answer;
 use refusals::Refusal;
 use year::Year;
@@ -84,7 +87,10 @@ fn floor_of(book: Book, pyf: u16, pppi: u32, exceptional: bool, met: bool) -> i6
 pub fn levels_of(book: Book, y: Year, log: Log) -> Levels
     ensures { λ r. ⌜ LevelsGives book y log r ⌝ }
 {
-    let target = check_target(book, log, y.number);
+    let minutes = year_minutes(y.number, log.regime_end);
+    let lost = lost_energy(log, minutes.first_minute(), minutes.end_minute());
+    let available = measured(book, log.regime_end, minutes, lost);
+    let target = tested(book, y.number, available);
     if let Target::Refused(why) = target {
         return Levels::Refused(why);
     }

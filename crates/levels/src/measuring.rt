@@ -16,6 +16,7 @@ ghost use lib.IntN.{natAbs, _+ℤ_};
 ghost use lib.Signed.{nonNeg};
 ghost use Rattle.levels.specs.Book.{bookHolds, goodBook, goodSum, small, targetOf};
 ghost use Rattle.levels.specs.Availability.{targetMet, AvailabilityGives, TargetGives};
+ghost use Rattle.levels.specs.Steps.{measuredOf, testedOf, LostWithin};
 
 // MW-minutes that the cable could carry in a year, or why there is no figure.
 pub enum Availability {
@@ -99,17 +100,21 @@ fn book_holds(b: Book, regime_end: u32) -> bool
     b.regime_end == regime_end
 }
 
-// Availability of a year: rated capacity times its minutes, less its lost energy.
-pub fn availability_of(book: Book, log: Log, number: u8) -> Availability
-    ensures { λ r. ⌜ AvailabilityGives book log number r ⌝ }
+// Rated capacity times the minutes of a year, less the energy lost in them, from what the calendar and the log answered.
+pub(crate) fn measured(
+    book: Book,
+    regime_end: u32,
+    minutes: YearMinutes,
+    lost: LostEnergy,
+) -> Availability
+    requires { ⌜ LostWithin minutes lost ⌝ }
+    ensures { λ r. ⌜ r ≡ measuredOf (bookHolds book «regime_end») minutes lost ⌝ }
 {
-    if !book_holds(book, log.regime_end) {
+    if !book_holds(book, regime_end) {
         return Availability::Refused(Refusal::BadBook);
     }
-    let minutes = year_minutes(number, log.regime_end);
     let first = minutes.first_minute();
     let end = minutes.end_minute();
-    let lost = lost_energy(log, first, end);
     let LostEnergy::MwMinutes(x) = lost else {
         return Availability::Refused(Refusal::BrokenLog);
     };
@@ -118,6 +123,15 @@ pub fn availability_of(book: Book, log: Log, number: u8) -> Availability
     }
     let figure = 1_000 * ((end - first) as u64) - x;
     Availability::MwMinutes(figure)
+}
+
+// Availability of a year: rated capacity times its minutes, less its lost energy.
+pub fn availability_of(book: Book, log: Log, number: u8) -> Availability
+    ensures { λ r. ⌜ AvailabilityGives book log number r ⌝ }
+{
+    let minutes = year_minutes(number, log.regime_end);
+    let lost = lost_energy(log, minutes.first_minute(), minutes.end_minute());
+    measured(book, log.regime_end, minutes, lost)
 }
 
 // The target of a year, in MWh.
@@ -133,11 +147,10 @@ fn target_of(b: Book, number: u8) -> u32
     Book::TARGET
 }
 
-// Whether the availability of a year meets its target; equality does.
-pub fn check_target(book: Book, log: Log, number: u8) -> Target
-    ensures { λ r. ⌜ TargetGives book log number r ⌝ }
+// An availability held against the target of a year.
+pub(crate) fn tested(book: Book, number: u8, available: Availability) -> Target
+    ensures { λ r. ⌜ r ≡ testedOf book number available ⌝ }
 {
-    let available = availability_of(book, log, number);
     match available {
         Availability::Refused(why) => Target::Refused(why),
         Availability::MwMinutes(x) => {
@@ -148,6 +161,16 @@ pub fn check_target(book: Book, log: Log, number: u8) -> Target
             }
         }
     }
+}
+
+// Whether the availability of a year meets its target; equality does.
+pub fn check_target(book: Book, log: Log, number: u8) -> Target
+    ensures { λ r. ⌜ TargetGives book log number r ⌝ }
+{
+    let year = year_minutes(number, log.regime_end);
+    let lost = lost_energy(log, year.first_minute(), year.end_minute());
+    let available = measured(book, log.regime_end, year, lost);
+    tested(book, number, available)
 }
 
 // Met, and not missed or refused.

@@ -12,41 +12,69 @@ use Rattle.levels.specs.declared.measuring.Target.the-variants.{Met, Mis
 use Rattle.levels.specs.Availability.{targetNumber, targetMet, TargetGives}
 use Rattle.levels.specs.Levels.{aifOf, capLevel, floorLevel, levelFits}
 use Rattle.year.proofs.Says.{year-says, pppi-most, checked-good}
-use Rattle.levels.proofs.Levelled.{gives-no-target, gives-no-year, good, gives-large-cap, gives-large-floor, gives-levels}
+use Rattle.levels.proofs.Measured.{Asked, asked, lost-within, tested-gives}
+use Rattle.levels.proofs.Levelled.{Told, gives-no-target, gives-no-year, good, gives-large-cap, gives-large-floor, gives-levels}
 use Rattle.levels.proofs.measuring.Target.{the-type}
 use Rattle.levels.proofs.levelling.levels_of.Statement.{statement}
 use Rattle.levels.proofs.levelling.levels_of.Tie as tie
 
+abbrev start : tie.After-tested → tie.Start
+start c = c .before .before .before .before .before .before
+
 -- ---- what each call showed
+-- what the calendar and the log answered
+gave : (c : tie.After-lost-energy) → (let y = c .before .before .before in Asked (y .before .args .log) (y .before .args .y .number) (y .year-minutes .result) (c .lost-energy .result))
+gave c = asked (c .before .before .before .year-minutes .ensures) (c .before .before .first-minute .ensures) (c .before .end-minute .ensures) (c .lost-energy .ensures)
+
+target : (c : tie.After-tested) → (let a = start c .args in TargetGives (a .book) (a .log) (a .y .number) (c .tested .result))
+target c =
+    let m = c .before in
+    tested-gives (start c .args .book) (gave (m .before)) (m .measured .result) (m .measured .ensures) (c .tested .result) (c .tested .ensures)
+
 -- a target that is not refused
-told : (t : Target) → (tagOf the-type t ≡ 0) ⊎ (tagOf the-type t ≡ 1) → targetNumber t ≡ 0
-told Met h = refl
-told Missed h = refl
-told (Refused why) (inl e) = absurd (omega arith)
-told (Refused why) (inr e) = absurd (omega arith)
+not-refused : (t : Target) → (tagOf the-type t ≡ 0) ⊎ (tagOf the-type t ≡ 1) → targetNumber t ≡ 0
+not-refused Met h = refl
+not-refused Missed h = refl
+not-refused (Refused why) (inl e) = absurd (omega arith)
+not-refused (Refused why) (inr e) = absurd (omega arith)
 
-clear : (c : tie.At-match-keys2) → targetNumber (c .before .check-target .result) ≡ 0
-clear c = told (c .before .check-target .result) (c .match .keys2)
+told : (c : tie.At-match-keys2) → (let a = start (c .before) .args in Told (a .book) (a .y) (a .log) (c .before .tested .result))
+told c = record { gives = target (c .before); clear = not-refused (c .before .tested .result) (c .match .keys2) }
 
-in-range : (c : tie.After-enum-told) → goodYearRecord (c .before .before .before .before .before .args .y) ≡ true
+in-range : (c : tie.After-enum-told) → goodYearRecord (start (c .before .before .before .before) .args .y) ≡ true
 in-range c =
     let k = c .before .before in
-    checked-good (k .before .before .before .args .y) (k .check-year .result) (k .check-year .ensures) (c .enum-told .given .1)
+    checked-good (start (k .before .before) .args .y) (k .check-year .result) (k .check-year .ensures) (c .enum-told .given .1)
 
-fits : (c : tie.After-within) → (let a = c .before .before .before .before .before .before .before .before .before .args in levelFits (capLevel (a .book) (a .y))) ≡ c .within .result
+fits : (c : tie.After-within) → (let a = start (c .before .before .before .before .before .before .before .before) .args in levelFits (capLevel (a .book) (a .y))) ≡ c .within .result
 fits c =
     let p = c .before .before .before in
     sym (c .within .ensures ∙ ap levelFits (wire (p .cap-of .result) (p .cap-of .ok) ∙ p .cap-of .ensures))
 
-floor : (c : tie.After-floor-of) → (let a = c .before .before .before .before .before .before .before .before .args in c .floor-of .result ≡ floorLevel (a .book) (a .y) (aifOf (targetMet (c .before .before .before .before .before .before .before .check-target .result)) (a .y .exceptional) (a .book .«miss_factor»)))
+floor : (c : tie.After-floor-of) → (let t = c .before .before .before .before .before .before .before in let a = start t .args in c .floor-of .result ≡ floorLevel (a .book) (a .y) (aifOf (targetMet (t .tested .result)) (a .y .exceptional) (a .book .«miss_factor»)))
 floor c = rw (c .before .is-met .ensures) at (c .floor-of .ensures)
 
 floor-fits : (c : tie.After-within2) → levelFits (c .before .before .before .floor-of .result) ≡ c .within2 .result
 floor-fits c = let f = c .before .before .before in sym (c .within2 .ensures ∙ ap levelFits (wire (f .floor-of .result) (f .floor-of .ok)))
 
 -- ---- the needs
-check-target-requires : tie.Need-check-target-requires
-check-target-requires c κs = search needs
+year-minutes-requires : tie.Need-year-minutes-requires
+year-minutes-requires c κs = search needs
+
+first-minute-requires : tie.Need-first-minute-requires
+first-minute-requires c κs = search needs
+
+end-minute-requires : tie.Need-end-minute-requires
+end-minute-requires c κs = search needs
+
+lost-energy-requires : tie.Need-lost-energy-requires
+lost-energy-requires c κs = search needs
+
+measured-requires : tie.Need-measured-requires
+measured-requires c κs = lost-within (gave c)
+
+tested-requires : tie.Need-tested-requires
+tested-requires c κs = search needs
 
 enum-known-target : tie.Need-enum-known-target
 enum-known-target c = search needs
@@ -54,9 +82,9 @@ enum-known-target c = search needs
 returns : tie.Need-returns
 returns c =
     let s = c .before .before .before in
-    let a = s .before .args in
+    let a = start s .args in
     gives-no-target (a .book) (a .y) (a .log) (c .before .target .given .0 .0)
-    (subst (TargetGives (a .book) (a .log) (a .y .number)) (c .before .target .given .1) (s .check-target .ensures))
+    (subst (TargetGives (a .book) (a .log) (a .y .number)) (c .before .target .given .1) (target s))
 
 check-year-requires : tie.Need-check-year-requires
 check-year-requires c κs = search needs
@@ -67,10 +95,7 @@ enum-known-answer c = search needs
 returns-2 : tie.Need-returns-2
 returns-2 c =
     let d = c .before .before .before in
-    let k = d .before in
-    let a = k .before .before .args in
-    gives-no-year (a .book) (a .y) (a .log) (k .before .check-target .result) (k .before .check-target .ensures) (clear k)
-    (d .check-year .result) (c .before .answer .given .0 .0) (d .check-year .ensures) (c .before .answer .given .1)
+    gives-no-year (told (d .before)) (d .check-year .result) (c .before .answer .given .0 .0) (d .check-year .ensures) (c .before .answer .given .1)
 
 enum-told : tie.Need-enum-told
 enum-told c = search needs
@@ -78,9 +103,9 @@ enum-told c = search needs
 cap-of-requires : tie.Need-cap-of-requires
 cap-of-requires c κs =
     let k = c .before .before .before in
-    let a = k .before .before .args in
-    let y = year-says (a .y) (in-range c) in
-    (good (a .book) (a .y) (a .log) (k .before .check-target .result) (k .before .check-target .ensures) (clear k), y .pyc, y .aic, pppi-most (a .y .pppi) (y .pppi))
+    let y = start (k .before) .args .y in
+    let s = year-says y (in-range c) in
+    (good (told k), s .pyc, s .aic, pppi-most (y .pppi) (s .pppi))
 
 is-met-requires : tie.Need-is-met-requires
 is-met-requires c κs = search needs
@@ -89,9 +114,9 @@ floor-of-requires : tie.Need-floor-of-requires
 floor-of-requires c κs =
     let e = c .before .before in
     let k = e .before .before .before in
-    let a = k .before .before .args in
-    let y = year-says (a .y) (in-range e) in
-    (good (a .book) (a .y) (a .log) (k .before .check-target .result) (k .before .check-target .ensures) (clear k), y .pyf, pppi-most (a .y .pppi) (y .pppi))
+    let y = start (k .before) .args .y in
+    let s = year-says y (in-range e) in
+    (good (told k), s .pyf, pppi-most (y .pppi) (s .pppi))
 
 within-requires : tie.Need-within-requires
 within-requires c κs = search needs
@@ -99,10 +124,7 @@ within-requires c κs = search needs
 returns-3 : tie.Need-returns-3
 returns-3 c =
     let e = c .before .before .before .before .before in
-    let k = e .before .before .before in
-    let a = k .before .before .args in
-    gives-large-cap (a .book) (a .y) (a .log) (k .before .check-target .result) (k .before .check-target .ensures) (clear k) (in-range e)
-    (fits (c .before) ∙ not-true _ (c .if1 .taken))
+    gives-large-cap (told (e .before .before .before)) (in-range e) (fits (c .before) ∙ not-true _ (c .if1 .taken))
 
 within-requires-2 : tie.Need-within-requires-2
 within-requires-2 c κs = search needs
@@ -112,10 +134,8 @@ returns-4 c =
     let l = c .before .before in
     let f = l .before .before in
     let e = f .before .before .before in
-    let k = e .before .before .before in
-    let a = k .before .before .args in
-    gives-large-floor (a .book) (a .y) (a .log) (k .before .check-target .result) (k .before .check-target .ensures) (clear k) (in-range e)
-    (f .floor-of .result) (floor f) (fits (l .before) ∙ not-false _ (l .if1 .left)) (floor-fits (c .before) ∙ not-true _ (c .if2 .taken))
+    gives-large-floor (told (e .before .before .before)) (in-range e) (f .floor-of .result) (floor f)
+    (fits (l .before) ∙ not-false _ (l .if1 .left)) (floor-fits (c .before) ∙ not-true _ (c .if2 .taken))
 
 returns-5 : tie.Need-returns-5
 returns-5 c =
@@ -123,16 +143,19 @@ returns-5 c =
     let f = l .before .before in
     let p = f .before .before in
     let e = p .before in
-    let k = e .before .before .before in
-    let a = k .before .before .args in
-    let g = gives-levels (a .book) (a .y) (a .log) (k .before .check-target .result) (k .before .check-target .ensures) (clear k) (in-range e) (f .floor-of .result) (floor f) (p .cap-of .result) (p .cap-of .ensures) (fits (l .before) ∙ not-false _ (l .if1 .left)) (floor-fits (c .before) ∙ not-false _ (c .if2 .left)) in
+    let g = gives-levels (told (e .before .before .before)) (in-range e) (f .floor-of .result) (floor f) (p .cap-of .result) (p .cap-of .ensures) (fits (l .before) ∙ not-false _ (l .if1 .left)) (floor-fits (c .before) ∙ not-false _ (c .if2 .left)) in
     (g .0, wire (p .cap-of .result) (p .cap-of .ok) ∙ g .1, wire (f .floor-of .result) (f .floor-of .ok) ∙ g .2)
 
 pub levels-of-spec : {M : Type 1} → statement M
 levels-of-spec =
     tie.close
     (tie.spec
-    check-target-requires
+    year-minutes-requires
+    first-minute-requires
+    end-minute-requires
+    lost-energy-requires
+    measured-requires
+    tested-requires
     enum-known-target
     returns
     check-year-requires

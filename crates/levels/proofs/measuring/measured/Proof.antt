@@ -1,0 +1,88 @@
+use mathlib.Core.Path.{_≡_, sym, _∙_}
+use mathlib.Core.Bool.{true}
+use Prim.Native.Nat.{_-_, _*_, _≤_}
+use borrow.Author.Needs.{needs}
+use borrow.Author.Tests.{not-true, not-false}
+use Rattle.levels.specs.Book.{bookHolds}
+use Rattle.levels.proofs.measuring.measured.Statement.{statement}
+use Rattle.levels.proofs.measuring.measured.Tie as tie
+
+-- ---- what each call showed
+held : (c : tie.Else1) → bookHolds (c .before .before .args .book) (c .before .before .args .regime-end) ≡ true
+held c = sym (c .before .book-holds .ensures) ∙ not-false _ (c .if1 .left)
+
+within : (c : tie.After-known-told) → (let e = c .before .before .before in (e .before .first-minute .result ≤ e .end-minute .result) × (c .before .lost .given .0 .0 ≤ 1000 * (e .end-minute .result - e .before .first-minute .result)))
+within c =
+    let e = c .before .before .before in
+    rw (e .before .first-minute .ensures, e .end-minute .ensures) (e .before .before .before .before .pre (c .before .lost .given .0 .0) (c .before .lost .given .1))
+
+-- ---- the needs
+book-holds-requires : tie.Need-book-holds-requires
+book-holds-requires c κs = search needs
+
+returns : tie.Need-returns
+returns c = rw (sym (c .before .book-holds .ensures) ∙ not-true _ (c .if1 .taken))
+
+first-minute-requires : tie.Need-first-minute-requires
+first-minute-requires c κs = search needs
+
+end-minute-requires : tie.Need-end-minute-requires
+end-minute-requires c κs = search needs
+
+enum-known-lost : tie.Need-enum-known-lost
+enum-known-lost c = search needs
+
+enum-told : tie.Need-enum-told
+enum-told c = search needs
+
+returns-2 : tie.Need-returns-2
+returns-2 c = rw (held (c .before .before .before .before), c .enum-told .given .1)
+
+enum-known-minutes : tie.Need-enum-known-minutes
+enum-known-minutes c = search needs
+
+returns-3 : tie.Need-returns-3
+returns-3 c =
+    let k = c .before .before .before in
+    rw (held (k .before .before .before .before .before), k .before .lost .given .1, c .before .minutes .given .1)
+
+enum-told-2 : tie.Need-enum-told-2
+enum-told-2 c = search needs
+
+sub-figure : tie.Need-sub-figure
+sub-figure c = within (c .before .before) .0
+
+cast-figure : tie.Need-cast-figure
+cast-figure c = search needs
+
+mul-figure : tie.Need-mul-figure
+mul-figure c = search needs
+
+sub-figure-2 : tie.Need-sub-figure-2
+sub-figure-2 c = within (c .before .before) .1
+
+returns-4 : tie.Need-returns-4
+returns-4 c =
+    let k = c .before .before in
+    let e = k .before .before .before in
+    simp (e .before .first-minute .ensures, e .end-minute .ensures, held (e .before .before), k .before .lost .given .1, c .enum-told2 .given .1)
+
+pub measured-spec : {M : Type 1} → statement M
+measured-spec =
+    tie.close
+    (tie.spec
+    book-holds-requires
+    returns
+    first-minute-requires
+    end-minute-requires
+    enum-known-lost
+    enum-told
+    returns-2
+    enum-known-minutes
+    returns-3
+    enum-told-2
+    sub-figure
+    cast-figure
+    mul-figure
+    sub-figure-2
+    returns-4)
