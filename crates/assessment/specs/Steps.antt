@@ -4,14 +4,18 @@ use mathlib.Core.List.{List}
 use mathlib.Core.Path.{_≡_}
 use Prim.Native.Nat.{ℕ}
 use lib.ListN.{replicate, set}
-use lib.IntN.{pos}
+use lib.IntN.{ℤ, pos}
 use Rattle.lists.specs.Lists.{all}
 use Rattle.refusals.specs.Refusals.{lowest}
 use Rattle.outage.specs.declared.Log.{Log}
 use Rattle.year.specs.declared.Year.{Year}
 use Rattle.year.specs.Year.{goodYearRecord}
 use Rattle.levels.specs.declared.Book.{Book}
+use Rattle.levels.specs.declared.levelling.Levels.{Levels}
+use Rattle.levels.specs.declared.levelling.Levels.the-variants as levels
 use Rattle.levels.specs.Levels.{capLevel, floorOf}
+use Rattle.revenue.specs.declared.Revenue.{Revenue}
+use Rattle.revenue.specs.declared.Revenue.the-variants as revenue
 use Rattle.revenue.specs.Revenue.{assessedRevenue}
 use Rattle.balances.specs.declared.assessing.Yearly.{Yearly}
 use Rattle.balances.specs.declared.assessing.Assessment.{Assessment}
@@ -31,6 +35,12 @@ goodFrom number years = all goodYearRecord years && numbersFrom number years
 
 abbrev pub noRow : Row
 noRow = record { fits = false; index = 0; revenue = pos 0; cap = pos 0; floor = pos 0; within = pos 0 }
+
+-- from the levels' answer and the revenue's
+abbrev pub rowFrom : Levels → Revenue → ℕ → ℤ → Row
+rowFrom (levels.Refused why) assessed index within = noRow
+rowFrom (levels.Pounds cap floor) (revenue.Refused why) index within = noRow
+rowFrom (levels.Pounds cap floor) (revenue.Pounds z) index within = record { fits = true; index = index; revenue = z; cap = cap; floor = floor; within = within }
 
 abbrev pub rowOf : Book → Year → Log → Row
 rowOf book y log =

@@ -25,7 +25,7 @@ ghost use Rattle.outage.specs.Log.{validLog};
 ghost use Rattle.year.specs.Year.{goodYearRecord};
 ghost use Rattle.balances.specs.Balance.{goodCount, periodYears};
 ghost use Rattle.assessment.specs.Period.{yearFits, yearlyOf, yearsGood, PeriodGives};
-ghost use Rattle.assessment.specs.Steps.{goodFrom, noAmounts, noRow, rowOf, withRow, FirstGives};
+ghost use Rattle.assessment.specs.Steps.{goodFrom, noAmounts, noRow, rowFrom, withRow, FirstGives};
 
 // What one year brings, and whether its levels and revenue fit: zeros where they do not.
 struct Row {
@@ -76,26 +76,23 @@ fn good_years(years: [Year; Yearly::YEARS], n: usize) -> bool
     good_from(years, n, number)
 }
 
-// One year's amounts, where book, log and year are in range.
-fn row_of(book: Book, y: Year, log: Log) -> Row
-    requires { ⌜ (bookHolds book (log .«regime_end») ≡ true) × (validLog log ≡ true) × (goodYearRecord y ≡ true) ⌝ }
-    ensures { λ r. ⌜ r ≡ rowOf book y log ⌝ }
+// One year's amounts, from its levels and its assessed revenue.
+fn row_of(found: Levels, assessed: Revenue, index: u32, within: i64) -> Row
+    ensures { λ r. ⌜ r ≡ rowFrom found assessed index within ⌝ }
 {
-    let found = levels_of(book, y, log);
     let Levels::Pounds { cap, floor } = found else {
         return no_row();
     };
-    let assessed = revenue_of(y);
     let Revenue::Pounds(revenue) = assessed else {
         return no_row();
     };
     Row {
         fits: true,
-        index: y.pppi,
+        index,
         revenue,
         cap,
         floor,
-        within: y.within,
+        within,
     }
 }
 
@@ -159,7 +156,8 @@ fn amounts_of(book: Book, years: [Year; Yearly::YEARS], log: Log, n: usize) -> F
     let mut k: usize = 0;
     while k < n {
         let y = years[k];
-        let row = row_of(book, y, log);
+        let found = levels_of(book, y, log);
+        let row = row_of(found, revenue_of(y), y.pppi, y.within);
         if !row.fits {
             return Filled {
                 fits: false,

@@ -7,11 +7,14 @@ use borrow.Author.Tests.{not-true, not-false}
 use lib.ListN.{length, getD, take, drop}
 use Rattle.lists.specs.Lists.{all}
 use Rattle.lists.proofs.Tests.{held}
+use Rattle.money.proofs.Pounds.{wire}
+use Rattle.year.specs.declared.Year.{Year}
 use Rattle.year.specs.Year.{goodYearRecord}
 use Rattle.balances.specs.Balance.{periodYears}
 use Rattle.balances.specs.declared.assessing.Yearly.{Yearly}
 use Rattle.assessment.specs.Period.{yearFits, yearlyOf}
-use Rattle.assessment.specs.Steps.{noAmounts, withRow}
+use Rattle.assessment.specs.Steps.{noAmounts, rowFrom, rowOf, withRow}
+use Rattle.assessment.proofs.Rows.{row-is}
 use Rattle.assessment.proofs.Years.{noYear, first-end, first-at, yearly-on, fits-next, row-says}
 use Rattle.assessment.proofs.amounts_of.Statement.{statement}
 use Rattle.assessment.proofs.amounts_of.Tie as tie
@@ -47,11 +50,29 @@ mul-y c = search needs
 array-copy-out-y : tie.Need-array-copy-out-y Inv-loop μ-loop
 array-copy-out-y c = search needs
 
+levels-of-requires : tie.Need-levels-of-requires Inv-loop μ-loop
+levels-of-requires c κs = search needs
+
+revenue-of-requires : tie.Need-revenue-of-requires Inv-loop μ-loop
+revenue-of-requires c κs = search needs
+
 row-of-requires : tie.Need-row-of-requires Inv-loop μ-loop
-row-of-requires c κs =
-    let a = c .before .before in
+row-of-requires c κs = search needs
+
+-- the year that is looked at, and its row
+abbrev this : tie.At-loop Inv-loop μ-loop → Year
+this a = getD (a .before .before .args .t2) (a .loop .k) noYear
+
+row : (c : tie.After-row-of Inv-loop μ-loop) → (let a = c .before .before .before .before .before .before in let s = a .before .before in c .row-of .result ≡ rowOf (s .args .book) (this a) (s .args .log))
+row c =
+    let p = c .before .before in
+    let i = p .before .before .before in
+    let a = i .before in
     let s = a .before .before in
-    (s .pre .1, s .pre .2, first-at noYear (s .args .t2) (s .args .n) (fits s) goodYearRecord (s .pre .3) (a .loop .k) (omega arith))
+    let good = first-at noYear (s .args .t2) (s .args .n) (fits s) goodYearRecord (s .pre .3) (a .loop .k) (i .loop-test .taken) in
+    c .row-of .ensures
+    ∙ ap (rowFrom (p .before .levels-of .result) (p .revenue-of .result) (this a .pppi)) (wire (this a .within) (c .before .struct-told .given .1 .1 .1 .1 .1 .1 .1 .1 .1 .0 .1))
+    ∙ row-is (s .args .book) (this a) (s .args .log) (s .pre .1) (s .pre .2) good (p .before .levels-of .result) (p .revenue-of .result) (p .before .levels-of .ensures) (p .revenue-of .ensures)
 
 no-amounts-requires-2 : tie.Need-no-amounts-requires-2 Inv-loop μ-loop
 no-amounts-requires-2 c κs = search needs
@@ -59,11 +80,11 @@ no-amounts-requires-2 c κs = search needs
 returns : tie.Need-returns Inv-loop μ-loop
 returns c =
     let r = c .before .before .before in
-    let a = r .before .before .before in
+    let i = r .before .before .before .before .before in
+    let a = i .before in
     let s = a .before .before in
-    let x = getD (s .args .t2) (a .loop .k) noYear in
-    let f = row-says (s .args .book) (s .args .t2) (s .args .log) x (r .row-of .result) (r .row-of .ensures) ∙ not-true _ (c .before .if1 .taken) in
-    let n = a .loop .inv .2 ∙ fits-next (s .args .book) (s .args .t2) (s .args .log) (s .args .n) (fits s) (a .loop .k) noYear (omega arith) f in
+    let f = row-says (s .args .book) (s .args .t2) (s .args .log) (this a) (r .row-of .result) (row r) ∙ not-true _ (c .before .if1 .taken) in
+    let n = a .loop .inv .2 ∙ fits-next (s .args .book) (s .args .t2) (s .args .log) (s .args .n) (fits s) (a .loop .k) noYear (i .loop-test .taken) f in
     (sym n, c .no-amounts2 .ensures ∙ ap (λ (b : Bool). cond b (yearlyOf (s .args .book) (s .args .t2) (s .args .log) (s .args .n)) noAmounts) (sym n))
 
 with-row-requires : tie.Need-with-row-requires Inv-loop μ-loop
@@ -78,16 +99,16 @@ loop-less c = search needs
 loop-again : tie.Need-loop-again Inv-loop μ-loop
 loop-again c =
     let r = c .before .before .before in
-    let a = r .before .before .before in
+    let i = r .before .before .before .before .before in
+    let a = i .before in
     let s = a .before .before in
-    let x = getD (s .args .t2) (a .loop .k) noYear in
-    let f = row-says (s .args .book) (s .args .t2) (s .args .log) x (r .row-of .result) (r .row-of .ensures) ∙ not-false _ (c .before .if1 .left) in (
-      omega arith,
+    let f = row-says (s .args .book) (s .args .t2) (s .args .log) (this a) (r .row-of .result) (row r) ∙ not-false _ (c .before .if1 .left) in (
+      omega (arith, i .loop-test .taken),
       c .with-row .ensures
           ∙ ap (λ (y : Yearly). withRow y (a .loop .k) (r .row-of .result)) (a .loop .inv .1)
-          ∙ ap (withRow (yearlyOf (s .args .book) (s .args .t2) (s .args .log) (a .loop .k)) (a .loop .k)) (r .row-of .ensures)
-          ∙ yearly-on (s .args .book) (s .args .t2) (s .args .log) (len s) (a .loop .k) noYear (omega arith) f,
-      a .loop .inv .2 ∙ fits-next (s .args .book) (s .args .t2) (s .args .log) (s .args .n) (fits s) (a .loop .k) noYear (omega arith) f,
+          ∙ ap (withRow (yearlyOf (s .args .book) (s .args .t2) (s .args .log) (a .loop .k)) (a .loop .k)) (row r)
+          ∙ yearly-on (s .args .book) (s .args .t2) (s .args .log) (len s) (a .loop .k) noYear (omega (arith, i .loop-test .taken, s .pre .0)) f,
+      a .loop .inv .2 ∙ fits-next (s .args .book) (s .args .t2) (s .args .log) (s .args .n) (fits s) (a .loop .k) noYear (i .loop-test .taken) f,
     )
 
 returns-2 : tie.Need-returns-2 Inv-loop μ-loop
@@ -113,6 +134,8 @@ amounts-of-spec =
     loop-holds
     mul-y
     array-copy-out-y
+    levels-of-requires
+    revenue-of-requires
     row-of-requires
     no-amounts-requires-2
     returns
