@@ -2,10 +2,11 @@
 use mathlib.Core.Bool.{Bool, cond, _&&_}
 use mathlib.Core.List.{List, [], _++_}
 use mathlib.Core.Option.{Option, some, none}
-use Prim.Native.Nat.{ℕ}
+use mathlib.Core.Path.{_≡_}
+use Prim.Native.Nat.{ℕ, _<_, _^_}
 use lib.Dec.{leb}
 use lib.IntN.{ℤ}
-use lib.ListN.{length, take}
+use lib.ListN.{length, take, drop}
 use Rattle.codec.specs.Numbers.{spelled, bytesOf}
 use Rattle.codec.specs.Fields.{head}
 use Rattle.codec.specs.Format.{num, int, field, when}
@@ -24,6 +25,11 @@ isThere n bs = leb n widest && leb n (length bs)
 -- the number that the first n bytes spell; 0 where they are not there
 unfoldable pub numberOf : ℕ → List ℕ → ℕ
 numberOf n bs = cond (isThere n bs) (spelled 0 (take n bs)) 0
+
+-- the n bytes from place p on spell v
+pub record Spells (s : List ℕ) (p n v : ℕ) : Type 0 where
+  pub is : spelled 0 (take n (drop p s)) ≡ v
+  pub small : v < 256 ^ n
 
 -- the bytes of a number; none where it is too wide
 unfoldable pub numberBytes : ℕ → ℕ → List ℕ

@@ -1,19 +1,22 @@
 -- What each step of a reading finds at a place. No call is stated by it: laws turn it into the words of the return.
-use mathlib.Core.Bool.{Bool, true, cond, _&&_}
+use mathlib.Core.Bool.{Bool, true, false, cond, not, _&&_}
 use mathlib.Core.List.{List}
 use mathlib.Core.Option.{Option, some, none}
 use mathlib.Core.Path.{_≡_}
-use Prim.Native.Nat.{ℕ}
+use Prim.Native.Nat.{ℕ, _+_}
 use lib.Dec.{leb, ltb}
-use lib.ListN.{length}
+use lib.ListN.{length, drop}
 use Rattle.lists.specs.Lists.{padded}
 use Rattle.entries.specs.declared.Entry.{Entry}
 use Rattle.outage.specs.Log.{lastRegimeEnd, holding}
 use Rattle.year.specs.declared.Line.{Line}
 use Rattle.year.specs.Year.{lineSlots, zeroLine}
 use Rattle.calendar.specs.Years.{goodYear}
+use Rattle.codec.specs.Fields.{framed}
+use Rattle.codec.specs.Leaves.{Spells}
 use Rattle.codec.specs.Format.{Value, such, malformed, ReadAt, StuckAt}
 use Rattle.filing.specs.Form.{entryLayout, lines, outages, required, body}
+use Rattle.reading.specs.declared.fields.Three.{Three}
 use Rattle.reading.specs.declared.fields.LineAt.{LineAt}
 use Rattle.reading.specs.declared.fields.LineAt.the-variants as L
 use Rattle.reading.specs.declared.fields.EntryAt.{EntryAt}
@@ -39,6 +42,11 @@ entryFound (some e) = E.Is e
 abbrev pub factorsFound : Option (ℕ × ℕ) → FactorsAt
 factorsFound none = F.Not
 factorsFound (some f) = F.Are (f .0) (f .1)
+
+-- ---- a field of three numbers, of a, b and c bytes: whether it is absent, and else what its bytes spell
+pub record ThreeRead (s : List ℕ) (at tag a b c : ℕ) (r : Three) : Type 0 where
+  pub absent : r .absent ≡ not (framed tag (a + b + c) (drop at s))
+  pub are : r .absent ≡ false → Spells s (at + 3) a (r .first) × Spells s (at + 3 + a) b (r .second) × Spells s (at + 3 + a + b) c (r .third)
 
 -- ---- an outage that starts from `first` on and before `end`
 abbrev pub mayStand : ℕ → ℕ → Entry → Bool
