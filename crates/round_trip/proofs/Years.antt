@@ -2,15 +2,15 @@
 use mathlib.Core.Path.{_≡_, refl, sym, ap, _∙_}
 use mathlib.Core.Bool.{Bool, true, false, cond, not, _&&_, _||_}
 use mathlib.Core.List.{List, [], _∷_, _++_, append-nil}
-use Prim.Native.Nat.{ℕ, zero, suc, _+_, _-_, _≤_}
+use Prim.Native.Nat.{ℕ, _≤_}
 use native.Mathlib.Omega.{arith}
 use borrow.Author.Tests.{eqb-true, leb-true, le-leb}
 use lib.Dec.{leb, eqb}
 use lib.IntN.{ℤ, natAbs}
-use lib.ListN.{length, take, drop, replicate, length-drop}
-use lib.Seq.{length-take-le, take-append-seam, drop-append-seam, append-snoc}
+use lib.ListN.{length, take}
+use lib.Seq.{length-take-le, append-snoc}
 use Rattle.lists.specs.Lists.{all, padded}
-use Rattle.lists.proofs.Padded.{padded-back}
+use Rattle.lists.proofs.Padded.{padded-held, padded-free, padded-back}
 use Rattle.lists.proofs.Tests.{and-left, and-right, and-made}
 use Rattle.entries.specs.declared.Entry.{Entry}
 use Rattle.outage.specs.Log.{slots, lastRegimeEnd, goodEntry, validEntries, rowOf, validLog, live, holding}
@@ -187,27 +187,13 @@ within-small z h =
     (λ e. and-left (goodAmount z) (not (isNone z)) e)
 
 -- ---- the slots of the lines
-line-made : {k k′ c c′ : ℕ} {a a′ : ℤ} → k ≡ k′ → c ≡ c′ → a ≡ a′ → _≡_ {A = Line} (record { kind = k; currency = c; amount = a }) (record { kind = k′; currency = c′; amount = a′ })
-line-made p q r = cc
-
 zero-line : (l : Line) → isZeroLine l ≡ true → l ≡ zeroLine
 zero-line l z =
-    let a = eqb (l .kind) 0 in
-    let b = eqb (l .currency) 0 in
-    let c = eqb (natAbs (l .amount)) 0 in
-    line-made (eqb-true (l .kind) 0 (and-left a (b && c) z)) (eqb-true (l .currency) 0 (and-left b c (and-right a (b && c) z)))
-    (none-is (l .amount) (and-right b c (and-right a (b && c) z)))
-
-zero-lines : (ls : List Line) → all isZeroLine ls ≡ true → ls ≡ replicate (length ls) zeroLine
-zero-lines [] z = refl
-zero-lines (l ∷ ls) z =
-    let p = zero-line l (and-left (isZeroLine l) (all isZeroLine ls) z) in
-    let q = zero-lines ls (and-right (isZeroLine l) (all isZeroLine ls) z) in
-    cc
-
-free-lines : (n : ℕ) → all isZeroLine (replicate n zeroLine) ≡ true
-free-lines zero = refl
-free-lines (suc n) = free-lines n
+    let r = and-right (eqb (l .kind) 0) _ z in
+    let k = eqb-true (l .kind) 0 (and-left (eqb (l .kind) 0) _ z) in
+    let c = eqb-true (l .currency) 0 (and-left (eqb (l .currency) 0) _ r) in
+    let a = none-is (l .amount) (and-right (eqb (l .currency) 0) _ r) in
+    λ i. record { kind = k i; currency = c i; amount = a i }
 
 -- ---- what a valid year is
 module _ (y : Year) (v : validYear y ≡ true) where
@@ -259,11 +245,7 @@ module _ (y : Year) (v : validYear y ≡ true) where
         }
 
     row-is : padded lineSlots zeroLine (take (y .«line_count») (y .lines)) ≡ y .lines
-    row-is =
-        let free = drop (y .«line_count») (y .lines) in
-        let n : length free ≡ lineSlots - y .«line_count» = length-drop (y .«line_count») (y .lines) ∙ omega (arith, row) in
-        padded-back lineSlots zeroLine (y .lines) (y .«line_count») row (lined .few)
-        (zero-lines free (lined .free) ∙ ap (λ (k : ℕ). replicate k zeroLine) n)
+    row-is = padded-back lineSlots zeroLine isZeroLine zero-line (y .lines) (y .«line_count») row (lined .few) (lined .free)
 
     log-is : holding lastRegimeEnd (live (y .log)) ≡ y .log
     log-is = ap (λ (re : ℕ). holding re (live (y .log))) (sym to-end) ∙ sym (holds (y .log) slotted log-valid)
@@ -293,16 +275,13 @@ module _ (p : Parts) (f : Fine p) where
   abbrev es : List Entry
   es = p .1 .1 .1 .0
 
-  abbrev free : List Line
-  free = replicate (lineSlots - length ls) zeroLine
-
   entered : (all (startsIn (p .0 .0)) es ≡ true) × (validEntries lastRegimeEnd es ≡ true)
   entered = entries-good (p .0 .0) [] es (f .logged) refl
 
   lines-made : goodLines (padded lineSlots zeroLine ls) (length ls) ≡ true
   lines-made =
       and-made (le-leb (length ls) lineSlots (f .few))
-      (and-made (ap (all goodLine) (take-append-seam ls free) ∙ lines-good [] ls (f .lined)) (ap (all isZeroLine) (drop-append-seam ls free) ∙ free-lines (lineSlots - length ls)))
+      (and-made (ap (all goodLine) (padded-held lineSlots zeroLine ls) ∙ lines-good [] ls (f .lined)) (padded-free lineSlots zeroLine isZeroLine refl ls))
 
   pub parts-valid : validYear (yearOf p) ≡ true
   parts-valid =
@@ -323,7 +302,7 @@ module _ (p : Parts) (f : Fine p) where
     (
       p .1 .0,
       (
-        take-append-seam ls free i,
+        padded-held lineSlots zeroLine ls i,
         (
           holding-live lastRegimeEnd es i,
           (mark-there (p .1 .1 .1 .1 .0) (f .marked) i, p .1 .1 .1 .1 .1),
