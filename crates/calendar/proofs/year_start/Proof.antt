@@ -26,18 +26,6 @@ all xs t year l h =
     eqb→eq (getD xs (year - 1) 0) (yearStart (suc (year - 1))) (at right xs t (year - 1) h)
     ∙ ap yearStart (omega arith)
 
-sub-result : tie.Need-sub-result
-sub-result c = search needs
-
-cast-result : tie.Need-cast-result
-cast-result c = search needs
-
-mul-result : tie.Need-mul-result
-mul-result c = search needs
-
-array-read-result : tie.Need-array-read-result
-array-read-result c = search needs
-
 returns : tie.Need-returns
 unfolding right yearStart daysTo
 returns c =
@@ -45,4 +33,4 @@ returns c =
     (search needs)
 
 pub year-start-spec : {M : Type 1} → statement M
-year-start-spec = tie.close (tie.spec sub-result cast-result mul-result array-read-result returns)
+year-start-spec = tie.close (tie.spec (search needs) (search needs) (search needs) (search needs) returns)

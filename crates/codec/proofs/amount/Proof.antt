@@ -18,23 +18,11 @@ returns c =
     let h : length (drop (a .at) (a .s .now)) < 8 = simp length-drop (omega arith) in
     sym (amount-short _ _ h)
 
-sub-if2 : tie.Need-sub-if2
-sub-if2 c = search needs
-
 returns-2 : tie.Need-returns-2
 returns-2 c =
     let a = c .before .before .before .args in
     let h : length (drop (a .at) (a .s .now)) < 8 = simp length-drop (omega arith) in
     sym (amount-short _ _ h)
-
-spell-requires : tie.Need-spell-requires
-spell-requires c κs = search needs
-
-signed-requires : tie.Need-signed-requires
-signed-requires c κs = search needs
-
-within-requires : tie.Need-within-requires
-within-requires c κs = search needs
 
 same : (c : tie.After-within) → toZ w64 (ofZ w64 (c .before .signed .result)) ≡ c .before .signed .result
 same c = toZ-ofZ w64 (c .before .signed .result) (record { sfits = c .before .signed .ok })
@@ -56,4 +44,4 @@ returns-4 c =
     rw (amount-there (a .most) _ h, ← c .before .before .before .spell .ensures, ← c .before .before .signed .ensures, found (c .before), c .if3 .left)
 
 pub amount-spec : {M : Type 1} → statement M
-amount-spec = tie.close (tie.spec returns sub-if2 returns-2 spell-requires signed-requires within-requires returns-3 returns-4)
+amount-spec = tie.close (tie.spec returns (search needs) returns-2 (search needs) (search needs) (search needs) returns-3 returns-4)

@@ -14,39 +14,21 @@ returns c =
     let h : length (drop (a .at) (a .s .now)) < 3 = simp length-drop (omega arith) in
     sym (framed-short (a .tag) (a .len) _ h)
 
-sub-if2 : tie.Need-sub-if2
-sub-if2 c = search needs
-
 returns-2 : tie.Need-returns-2
 returns-2 c =
     let a = c .before .before .before .args in
     let h : length (drop (a .at) (a .s .now)) < 3 = simp length-drop (omega arith) in
     sym (framed-short (a .tag) (a .len) _ h)
 
-shared-slice-read-if3 : tie.Need-shared-slice-read-if3
-shared-slice-read-if3 c = search needs
-
 returns-3 : tie.Need-returns-3
 returns-3 c =
     let a = c .before .before .before .before .before .args in
     rw (framed-at (a .tag) (a .len) (a .s .now) (a .at) (omega arith), ne-eqb _ _ (c .if3 .taken))
 
-add-spell : tie.Need-add-spell
-add-spell c = search needs
-
-spell-requires : tie.Need-spell-requires
-spell-requires c κs = search needs
-
 returns-4 : tie.Need-returns-4
 returns-4 c =
     let a = c .before .before .before .before .before .before .before .args in
     rw (framed-at (a .tag) (a .len) (a .s .now) (a .at) (omega arith), eq-eqb _ _ (c .before .before .if3 .left), ← c .before .spell .ensures, ne-eqb _ _ (c .if4 .taken))
-
-sub-result : tie.Need-sub-result
-sub-result c = search needs
-
-sub-result-2 : tie.Need-sub-result-2
-sub-result-2 c = search needs
 
 returns-5 : tie.Need-returns-5
 returns-5 c =
@@ -56,4 +38,5 @@ returns-5 c =
 pub is-field-spec : {M : Type 1} → statement M
 is-field-spec =
     tie.close
-    (tie.spec returns sub-if2 returns-2 shared-slice-read-if3 returns-3 add-spell spell-requires returns-4 sub-result sub-result-2 returns-5)
+    (tie.spec returns (search needs) returns-2 (search needs) returns-3 (search needs) (search needs) returns-4 (search needs) (search needs)
+    returns-5)

@@ -16,17 +16,11 @@ returns-2 c =
     let e : length (drop (a .at) (a .s .now)) ≡ 0 = simp length-drop (omega arith) in
     sym (number-past (a .n) _ e)
 
-sub-if3 : tie.Need-sub-if3
-sub-if3 c = search needs
-
 returns-3 : tie.Need-returns-3
 returns-3 c =
     let a = c .before .before .before .before .args in
     let h : length (drop (a .at) (a .s .now)) < a .n = simp length-drop (omega arith) in
     sym (number-short (a .n) _ h)
-
-spell-requires : tie.Need-spell-requires
-spell-requires c κs = search needs
 
 returns-4 : tie.Need-returns-4
 returns-4 c =
@@ -35,4 +29,4 @@ returns-4 c =
     c .spell .ensures ∙ sym (number-there (a .n) _ (omega arith) h)
 
 pub number-spec : {M : Type 1} → statement M
-number-spec = tie.close (tie.spec returns returns-2 sub-if3 returns-3 spell-requires returns-4)
+number-spec = tie.close (tie.spec returns returns-2 (search needs) returns-3 (search needs) returns-4)

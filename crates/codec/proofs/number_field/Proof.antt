@@ -13,9 +13,6 @@ use Rattle.codec.proofs.number_field.Tie as tie
 returns : tie.Need-returns
 returns c = sym (field-wide _ _ _ _ _ (c .if1 .taken))
 
-is-field-requires : tie.Need-is-field-requires
-is-field-requires c κs = search needs
-
 returns-2 : tie.Need-returns-2
 returns-2 c = sym (value-not _ _ _ _ _ (omega arith) (sym (c .before .is-field .ensures) ∙ not-true _ (c .if2 .taken)))
 
@@ -44,4 +41,4 @@ returns-5 c =
     rw (value-there _ _ _ _ _ _ (omega arith) (whole (c .before .before .before)), ← c .before .before .spell .ensures, le-leb _ _ (c .before .if3 .left), le-leb _ _ (c .if4 .left))
 
 pub number-field-spec : {M : Type 1} → statement M
-number-field-spec = tie.close (tie.spec returns is-field-requires returns-2 add-spell spell-requires returns-3 returns-4 returns-5)
+number-field-spec = tie.close (tie.spec returns (search needs) returns-2 add-spell spell-requires returns-3 returns-4 returns-5)

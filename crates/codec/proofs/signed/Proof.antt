@@ -8,23 +8,11 @@ use Rattle.codec.proofs.Complement.{comp-fits, upper}
 use Rattle.codec.proofs.signed.Statement.{statement}
 use Rattle.codec.proofs.signed.Tie as tie
 
-cast-result : tie.Need-cast-result
-cast-result c = search needs
-
-sub-result : tie.Need-sub-result
-sub-result c = search needs
-
-cast-result-2 : tie.Need-cast-result-2
-cast-result-2 c = search needs
-
 sub-result-2 : tie.Need-sub-result-2
 sub-result-2 c = comp-fits _ (toZ-fits w64 (18446744073709551615 - c .before .args .u) (omega arith))
-
-returns : tie.Need-returns
-returns c = search needs
 
 returns-2 : tie.Need-returns-2
 returns-2 c = toZ-ofZ w64 _ (sub-result-2 c) ∙ upper (c .before .args .u) (omega arith) (omega arith)
 
 pub signed-spec : {M : Type 1} → statement M
-signed-spec = tie.close (tie.spec cast-result sub-result cast-result-2 sub-result-2 returns returns-2)
+signed-spec = tie.close (tie.spec (search needs) (search needs) (search needs) sub-result-2 (λ c. search needs) returns-2)

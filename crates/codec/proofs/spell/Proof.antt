@@ -28,23 +28,11 @@ loop-holds c = (omega arith, omega arith, refl)
 mul-v : tie.Need-mul-v Inv-loop μ-loop
 mul-v c = omega (arith, wide c)
 
-add-v : tie.Need-add-v Inv-loop μ-loop
-add-v c = omega arith
-
-shared-slice-read-v : tie.Need-shared-slice-read-v Inv-loop μ-loop
-shared-slice-read-v c = omega arith
-
 cast-v : tie.Need-cast-v Inv-loop μ-loop
 cast-v c = omega (arith, byte c)
 
 add-v-2 : tie.Need-add-v-2 Inv-loop μ-loop
 add-v-2 c = omega (arith, byte c, wide (c .before))
-
-add-i : tie.Need-add-i Inv-loop μ-loop
-add-i c = omega arith
-
-loop-less : tie.Need-loop-less Inv-loop μ-loop
-loop-less c = omega arith
 
 loop-again : tie.Need-loop-again Inv-loop μ-loop
 loop-again c =
@@ -60,4 +48,5 @@ returns c =
 
 pub spell-spec : {M : Type 1} → statement M
 spell-spec =
-    tie.close (tie.spec Inv-loop μ-loop loop-holds mul-v add-v shared-slice-read-v cast-v add-v-2 add-i loop-less loop-again returns)
+    tie.close (tie.spec Inv-loop μ-loop loop-holds mul-v (λ c. omega arith) (λ c. omega arith) cast-v add-v-2 (λ c. omega arith) (λ c. omega arith)
+    loop-again returns)

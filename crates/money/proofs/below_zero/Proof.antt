@@ -7,12 +7,6 @@ use Rattle.money.proofs.Signs.{turn-pos}
 use Rattle.money.proofs.below_zero.Statement.{statement}
 use Rattle.money.proofs.below_zero.Tie as tie
 
-credit-requires : tie.Need-credit-requires
-credit-requires c κs = search needs
-
-turned-requires : tie.Need-turned-requires
-turned-requires c κs = search needs
-
 returns : tie.Need-returns
 returns c =
     let k = c .before in
@@ -21,4 +15,4 @@ returns c =
     turn-pos (k .before .args .n)
 
 pub below-zero-spec : {M : Type 1} → statement M
-below-zero-spec = tie.close (tie.spec credit-requires turned-requires returns)
+below-zero-spec = tie.close (tie.spec (search needs) (search needs) returns)

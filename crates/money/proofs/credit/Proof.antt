@@ -10,11 +10,8 @@ use Rattle.money.proofs.credit.Tie as tie
 returns : tie.Need-returns
 returns c = ap pos (omega arith)
 
-cast-result : tie.Need-cast-result
-cast-result c = search needs
-
 returns-2 : tie.Need-returns-2
 returns-2 c = held-wire (pos (c .before .args .n)) (omega arith)
 
 pub credit-spec : {M : Type 1} → statement M
-credit-spec = tie.close (tie.spec returns cast-result returns-2)
+credit-spec = tie.close (tie.spec returns (search needs) returns-2)

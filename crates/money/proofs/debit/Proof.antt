@@ -10,16 +10,10 @@ use Rattle.money.proofs.debit.Tie as tie
 returns : tie.Need-returns
 returns c = rw (c .if1 .taken)
 
-sub-below-zero : tie.Need-sub-below-zero
-sub-below-zero c = search needs
-
-below-zero-requires : tie.Need-below-zero-requires
-below-zero-requires c κs = search needs
-
 returns-2 : tie.Need-returns-2
 returns-2 c =
     let s = c .before in
     wire (c .below-zero .result) (c .below-zero .ok) ∙ c .below-zero .ensures ∙ ap heldZ (neg-of (s .before .args .n) (s .if1 .left))
 
 pub debit-spec : {M : Type 1} → statement M
-debit-spec = tie.close (tie.spec returns sub-below-zero below-zero-requires returns-2)
+debit-spec = tie.close (tie.spec returns (search needs) (search needs) returns-2)

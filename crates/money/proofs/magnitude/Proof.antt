@@ -13,9 +13,6 @@ use Rattle.money.proofs.Signs.{turn-neg, abs-of-neg, not-neg, abs-fits}
 use Rattle.money.proofs.magnitude.Statement.{statement}
 use Rattle.money.proofs.magnitude.Tie as tie
 
-turned-requires : tie.Need-turned-requires
-turned-requires c κs = search needs
-
 -- a number below zero
 module _ (c : tie.After-turned) where
   abbrev z : ℤ
@@ -43,8 +40,5 @@ cast-result-2 c =
 returns : tie.Need-returns
 returns c = omega (arith, ap natAbs (back c), abs-of-neg (z c) (neg c))
 
-returns-2 : tie.Need-returns-2
-returns-2 c = search needs
-
 pub magnitude-spec : {M : Type 1} → statement M
-magnitude-spec = tie.close (tie.spec turned-requires cast-result add-result cast-result-2 returns returns-2)
+magnitude-spec = tie.close (tie.spec (search needs) cast-result add-result cast-result-2 returns (λ c. search needs))

@@ -9,15 +9,6 @@ use Rattle.money.proofs.Signs.{turn-held, turn-sum}
 use Rattle.money.proofs.minus.Statement.{statement}
 use Rattle.money.proofs.minus.Tie as tie
 
-turned-requires : tie.Need-turned-requires
-turned-requires c κs = search needs
-
-plus-requires : tie.Need-plus-requires
-plus-requires c κs = search needs
-
-turned-requires-2 : tie.Need-turned-requires-2
-turned-requires-2 c κs = search needs
-
 returns : tie.Need-returns
 returns c =
     let p = c .before in
@@ -31,4 +22,4 @@ returns c =
     turn-held (negsuc 0 -ℤ a +ℤ b) ∙ ap heldZ (turn-sum a b)
 
 pub minus-spec : {M : Type 1} → statement M
-minus-spec = tie.close (tie.spec turned-requires plus-requires turned-requires-2 returns)
+minus-spec = tie.close (tie.spec (search needs) (search needs) (search needs) returns)

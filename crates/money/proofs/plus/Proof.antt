@@ -13,12 +13,6 @@ use Rattle.money.proofs.Signs.{abs-fits, abs-of-neg, abs-of-pos, sum-ne
 use Rattle.money.proofs.plus.Statement.{statement}
 use Rattle.money.proofs.plus.Tie as tie
 
-is-negative-requires : tie.Need-is-negative-requires
-is-negative-requires c κs = search needs
-
-is-negative-requires-2 : tie.Need-is-negative-requires-2
-is-negative-requires-2 c κs = search needs
-
 -- ---- the signs
 module _ (c : tie.After-is-negative2) where
   abbrev s : tie.Start
@@ -51,12 +45,6 @@ returns c =
     simp (toZ-ofZ (s k .fits .a), toZ-ofZ (s k .fits .b)) (held-wire (a k +ℤ b k) (fits c))
 
 -- ---- both or none
-magnitude-requires : tie.Need-magnitude-requires
-magnitude-requires c κs = search needs
-
-magnitude-requires-2 : tie.Need-magnitude-requires-2
-magnitude-requires-2 c κs = search needs
-
 module _ (c : tie.After-magnitude2) where
   abbrev signs : tie.After-is-negative2
   signs = c .before .before .before
@@ -89,9 +77,6 @@ add-below-zero c =
     let k = bad c in
     omega (arith, a-abs (c .before), b-abs (c .before), abs-fits (a k) (s k .fits .a .sfits), abs-fits (b k) (s k .fits .b .sfits))
 
-below-zero-requires : tie.Need-below-zero-requires
-below-zero-requires c κs = search needs
-
 returns-2 : tie.Need-returns-2
 returns-2 c =
     let k = c .before in
@@ -111,9 +96,6 @@ add-credit c =
     let k = good c in
     omega (arith, a-abs (c .before), b-abs (c .before), abs-of-pos (a k) (a-pos c), s k .fits .a .sfits, abs-fits (b k) (s k .fits .b .sfits))
 
-credit-requires : tie.Need-credit-requires
-credit-requires c κs = search needs
-
 returns-3 : tie.Need-returns-3
 returns-3 c =
     let k = c .before in
@@ -123,17 +105,5 @@ returns-3 c =
 pub plus-spec : {M : Type 1} → statement M
 plus-spec =
     tie.close
-    (tie.spec
-    is-negative-requires
-    is-negative-requires-2
-    add-result
-    returns
-    magnitude-requires
-    magnitude-requires-2
-    sub-below-zero
-    add-below-zero
-    below-zero-requires
-    add-credit
-    credit-requires
-    returns-2
-    returns-3)
+    (tie.spec (search needs) (search needs) add-result returns (search needs) (search needs) sub-below-zero add-below-zero (search needs) add-credit
+    (search needs) returns-2 returns-3)

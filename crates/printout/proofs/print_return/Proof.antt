@@ -11,33 +11,12 @@ use Rattle.printout.proofs.Sheets.{refused-given, year-given}
 use borrow.Author.Needs.{needs}
 use Rattle.printout.proofs.print_return.Statement.{statement}
 use Rattle.printout.proofs.print_return.Tie as tie
-use Rattle.printout.proofs.print_return.Reads as reads
-use Rattle.printout.proofs.print_return.Lts as lts
-use Rattle.printout.proofs.print_year.Reads as print-year-reads
-use Rattle.printout.proofs.refusal.Reads as refusal-reads
-use Rattle.reading.proofs.read_return.Reads as read-return-reads
 
--- src/lib.rt:102:9
-read-return-requires : tie.Need-read-return-requires
-read-return-requires c κs = search needs
-
--- src/lib.rt:104:28
-enum-known-answer : tie.Need-enum-known-answer
-enum-known-answer c = search needs
-
--- src/lib.rt:105:9
-refusal-requires : tie.Need-refusal-requires
-refusal-requires c κs = search needs
-
--- src/lib.rt:105:9
 returns : tie.Need-returns
 returns c =
     let gave = c .before .before .before .before .read-return .ensures .0 in
     refused-given (c .before .before .before .before .before .before .args .s .now) (c .before .before .answer .given .0 .0)
     (sym (ap answerNumber (c .before .before .answer .given .1)) ∙ gave) (c .refusal .ensures)
-
-enum-told : tie.Need-enum-told
-enum-told c = search needs
 
 -- the bytes of the slice, and that they are a return
 bytes : (c : tie.After-y) → Bytes (c .before .before .before .before .before .args .s .now)
@@ -46,11 +25,9 @@ bytes c = λ i. c .before .before .before .before .shared-slice-known .given i .
 done : (c : tie.After-y) → lowest (readRows (c .before .before .before .before .before .args .s .now)) ≡ 0
 done c = sym (c .before .before .before .read-return .ensures .0) ∙ ap answerNumber (c .before .enum-told .given .1)
 
--- src/lib.rt:108:5
 print-year-requires : tie.Need-print-year-requires
 print-year-requires c κs = ap validYear (c .before .before .before .read-return .ensures .2) ∙ read-valid (c .before .before .before .before .before .args .s .now) (bytes c) (done c)
 
--- src/lib.rt:99:1
 returns-2 : tie.Need-returns-2
 returns-2 c =
     let year = c .before .before .before .before .read-return .ensures .2 in
@@ -60,11 +37,4 @@ returns-2 c =
 pub print-return-spec : {M : Type 1} → statement M
 print-return-spec =
     tie.close
-    (tie.spec
-    read-return-requires
-    enum-known-answer
-    refusal-requires
-    returns
-    enum-told
-    print-year-requires
-    returns-2)
+    (tie.spec (search needs) (search needs) (search needs) returns (search needs) print-year-requires returns-2)

@@ -7,33 +7,7 @@ use Rattle.printout.specs.Printout.{lineOf, refusedWord, refusalOf}
 use borrow.Author.Needs.{needs}
 use Rattle.printout.proofs.refusal.Statement.{statement}
 use Rattle.printout.proofs.refusal.Tie as tie
-use Rattle.printout.proofs.refusal.Reads as reads
-use Rattle.printout.proofs.refusal.Lts as lts
-use Rattle.printout.proofs.with_line.Reads as with-line-reads
-use Rattle.refusals.proofs.Refusal.number.Reads as number-reads
-use Rattle.text.proofs.Text.empty.Reads as empty-reads
 
--- src/lib.rt:48:15
-empty-requires : tie.Need-empty-requires
-empty-requires c κs = search needs
-
--- src/lib.rt:48:30
-slice-aggregate-with-line : tie.Need-slice-aggregate-with-line
-slice-aggregate-with-line c = search needs
-
--- src/lib.rt:48:43
-number-requires : tie.Need-number-requires
-number-requires c κs = search needs
-
--- src/lib.rt:48:43
-cast-with-line : tie.Need-cast-with-line
-cast-with-line c = search needs
-
--- src/lib.rt:48:5
-with-line-requires : tie.Need-with-line-requires
-with-line-requires c κs = search needs
-
--- src/lib.rt:45:1
 returns : tie.Need-returns
 unfolding refusalOf
 returns c =
@@ -46,10 +20,4 @@ returns c =
 pub refusal-spec : {M : Type 1} → statement M
 refusal-spec =
     tie.close
-    (tie.spec
-    empty-requires
-    slice-aggregate-with-line
-    number-requires
-    cast-with-line
-    with-line-requires
-    returns)
+    (tie.spec (search needs) (search needs) (search needs) (search needs) (search needs) returns)

@@ -12,39 +12,7 @@ use Rattle.printout.proofs.Sheets.{first-is, end-is, lost-is, after-is}
 use borrow.Author.Needs.{needs}
 use Rattle.printout.proofs.sheet.Statement.{statement}
 use Rattle.printout.proofs.sheet.Tie as tie
-use Rattle.printout.proofs.sheet.Reads as reads
-use Rattle.printout.proofs.sheet.Lts as lts
-use Rattle.calendar.proofs.YearMinutes.end_minute.Reads as end-minute-reads
-use Rattle.calendar.proofs.YearMinutes.first_minute.Reads as first-minute-reads
-use Rattle.calendar.proofs.year_minutes.Reads as year-minutes-reads
-use Rattle.printout.proofs.lines_of.Reads as lines-of-reads
-use Rattle.printout.proofs.lost_between.Reads as lost-between-reads
 
--- src/lib.rt:77:9
-year-minutes-requires : tie.Need-year-minutes-requires
-year-minutes-requires c κs = search needs
-
--- src/lib.rt:78:9
-first-minute-requires : tie.Need-first-minute-requires
-first-minute-requires c κs = search needs
-
--- src/lib.rt:79:9
-end-minute-requires : tie.Need-end-minute-requires
-end-minute-requires c κs = search needs
-
--- src/lib.rt:80:9
-lost-between-requires : tie.Need-lost-between-requires
-lost-between-requires c κs = search needs
-
--- src/lib.rt:81:9
-lost-between-requires-2 : tie.Need-lost-between-requires-2
-lost-between-requires-2 c κs = search needs
-
--- src/lib.rt:82:5
-lines-of-requires : tie.Need-lines-of-requires
-lines-of-requires c κs = search needs
-
--- src/lib.rt:72:1
 returns : tie.Need-returns
 returns c =
     let s = c .before .before .before .before .before .before .before in
@@ -68,11 +36,4 @@ returns c =
 pub sheet-spec : {M : Type 1} → statement M
 sheet-spec =
     tie.close
-    (tie.spec
-    year-minutes-requires
-    first-minute-requires
-    end-minute-requires
-    lost-between-requires
-    lost-between-requires-2
-    lines-of-requires
-    returns)
+    (tie.spec (search needs) (search needs) (search needs) (search needs) (search needs) (search needs) returns)

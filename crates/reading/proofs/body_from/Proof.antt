@@ -7,21 +7,6 @@ use borrow.Author.Needs.{needs}
 use Rattle.reading.proofs.body_from.Statement.{statement}
 use Rattle.reading.proofs.body_from.Tie as tie
 
-factors-from-requires : tie.Need-factors-from-requires
-factors-from-requires c κs = search needs
-
-lines-from-requires : tie.Need-lines-from-requires
-lines-from-requires c κs = search needs
-
-outages-from-requires : tie.Need-outages-from-requires
-outages-from-requires c κs = search needs
-
-mark-from-requires : tie.Need-mark-from-requires
-mark-from-requires c κs = search needs
-
-within-from-requires : tie.Need-within-from-requires
-within-from-requires c κs = search needs
-
 returns : tie.Need-returns
 returns c =
     let w = c .before .before .before in
@@ -46,10 +31,4 @@ returns c =
 pub body-from-spec : {M : Type 1} → statement M
 body-from-spec =
     tie.close
-    (tie.spec
-    factors-from-requires
-    lines-from-requires
-    outages-from-requires
-    mark-from-requires
-    within-from-requires
-    returns)
+    (tie.spec (search needs) (search needs) (λ c κs. search needs) (search needs) (search needs) returns)

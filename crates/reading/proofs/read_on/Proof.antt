@@ -6,12 +6,6 @@ use borrow.Author.Needs.{needs}
 use Rattle.reading.proofs.read_on.Statement.{statement}
 use Rattle.reading.proofs.read_on.Tie as tie
 
-body-from-requires : tie.Need-body-from-requires
-body-from-requires c κs = search needs
-
-refused-requires : tie.Need-refused-requires
-refused-requires c κs = search needs
-
 returns : tie.Need-returns
 returns c =
     let s = c .before .before .before .before .before in
@@ -29,4 +23,4 @@ returns-2 c =
     (none-left (s .args .s .now) (s .pre .0) (s .pre .1) (b .ensures) (c .before .before .before .if1 .left)))
 
 pub read-on-spec : {M : Type 1} → statement M
-read-on-spec = tie.close (tie.spec body-from-requires refused-requires returns returns-2)
+read-on-spec = tie.close (tie.spec (λ c κs. search needs) (search needs) returns returns-2)

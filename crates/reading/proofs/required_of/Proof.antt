@@ -24,75 +24,18 @@ rate-is c = number-is _ _ (sym (c .rate .given .1) ∙ c .before .before .number
 aic-is : (c : tie.After-aic) → field 4 aicValue (drop 18 (c .before .before .before .before .before .before .before .before .before .before .before .before .before .before .before .before .args .s .now)) ≡ some (c .aic .given .0 .0)
 aic-is c = number-is _ _ (sym (c .aic .given .1) ∙ c .before .before .number-field4 .ensures ∙ field-there 4 2 0 20000 _ (omega arith))
 
-cast-number-field : tie.Need-cast-number-field
-cast-number-field c = search needs
-
-cast-number-field-2 : tie.Need-cast-number-field-2
-cast-number-field-2 c = search needs
-
-number-field-requires : tie.Need-number-field-requires
-number-field-requires c κs = search needs
-
-enum-known-number : tie.Need-enum-known-number
-enum-known-number c = search needs
-
-enum-told : tie.Need-enum-told
-enum-told c = search needs
-
 returns : tie.Need-returns
 returns c = no-year (c .before .before .before .before .args .s .now) (number-not _ (sym (c .enum-told .given .1) ∙ c .before .before .number-field .ensures ∙ field-there 1 1 1 25 _ (omega arith)))
-
-cast-number-field-3 : tie.Need-cast-number-field-3
-cast-number-field-3 c = search needs
-
-cast-number-field-4 : tie.Need-cast-number-field-4
-cast-number-field-4 c = search needs
-
-number-field-requires-2 : tie.Need-number-field-requires-2
-number-field-requires-2 c κs = search needs
-
-enum-known-pppi : tie.Need-enum-known-pppi
-enum-known-pppi c = search needs
-
-enum-told-2 : tie.Need-enum-told-2
-enum-told-2 c = search needs
 
 returns-2 : tie.Need-returns-2
 returns-2 c =
     no-pppi (c .before .before .before .before .before .before .before .before .args .s .now) (year-is (c .before .before .before .before))
     (number-not _ (sym (c .enum-told2 .given .1) ∙ c .before .before .number-field2 .ensures ∙ field-there 2 4 5000 50000 _ (omega arith)))
 
-cast-number-field-5 : tie.Need-cast-number-field-5
-cast-number-field-5 c = search needs
-
-cast-number-field-6 : tie.Need-cast-number-field-6
-cast-number-field-6 c = search needs
-
-number-field-requires-3 : tie.Need-number-field-requires-3
-number-field-requires-3 c κs = search needs
-
-enum-known-rate : tie.Need-enum-known-rate
-enum-known-rate c = search needs
-
-enum-told-3 : tie.Need-enum-told-3
-enum-told-3 c = search needs
-
 returns-3 : tie.Need-returns-3
 returns-3 c =
     no-rate (c .before .before .before .before .before .before .before .before .before .before .before .before .args .s .now) (year-is (c .before .before .before .before .before .before .before .before)) (pppi-is (c .before .before .before .before))
     (number-not _ (sym (c .enum-told3 .given .1) ∙ c .before .before .number-field3 .ensures ∙ field-there 3 4 1 200000 _ (omega arith)))
-
-cast-number-field-7 : tie.Need-cast-number-field-7
-cast-number-field-7 c = search needs
-
-number-field-requires-4 : tie.Need-number-field-requires-4
-number-field-requires-4 c κs = search needs
-
-enum-known-aic : tie.Need-enum-known-aic
-enum-known-aic c = search needs
-
-enum-told-4 : tie.Need-enum-told-4
-enum-told-4 c = search needs
 
 returns-4 : tie.Need-returns-4
 returns-4 c =
@@ -118,32 +61,6 @@ returns-5 c =
 pub required-of-spec : {M : Type 1} → statement M
 required-of-spec =
     tie.close
-    (tie.spec
-    cast-number-field
-    cast-number-field-2
-    number-field-requires
-    enum-known-number
-    enum-told
-    returns
-    cast-number-field-3
-    cast-number-field-4
-    number-field-requires-2
-    enum-known-pppi
-    enum-told-2
-    returns-2
-    cast-number-field-5
-    cast-number-field-6
-    number-field-requires-3
-    enum-known-rate
-    enum-told-3
-    returns-3
-    cast-number-field-7
-    number-field-requires-4
-    enum-known-aic
-    enum-told-4
-    returns-4
-    cast-t12
-    cast-t13
-    cast-t14
-    cast-t15
-    returns-5)
+    (tie.spec (search needs) (search needs) (search needs) (search needs) (search needs) returns (search needs) (search needs) (search needs)
+    (search needs) (search needs) returns-2 (search needs) (search needs) (search needs) (search needs) (search needs) returns-3 (search needs)
+    (search needs) (search needs) (search needs) returns-4 cast-t12 cast-t13 cast-t14 cast-t15 returns-5)

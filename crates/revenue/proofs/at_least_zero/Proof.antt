@@ -5,9 +5,6 @@ use Rattle.revenue.specs.Revenue.{atLeastZero}
 use Rattle.revenue.proofs.at_least_zero.Statement.{statement}
 use Rattle.revenue.proofs.at_least_zero.Tie as tie
 
-is-negative-requires : tie.Need-is-negative-requires
-is-negative-requires c κs = search needs
-
 returns : tie.Need-returns
 unfolding atLeastZero
 returns c = rw (rw (toZ-ofZ (c .before .before .fits .z)) at (sym (c .before .is-negative .ensures) ∙ c .if1 .taken))
@@ -18,4 +15,4 @@ returns-2 c =
     rw (toZ-ofZ (c .before .before .fits .z), rw (toZ-ofZ (c .before .before .fits .z)) at (sym (c .before .is-negative .ensures) ∙ c .if1 .left))
 
 pub at-least-zero-spec : {M : Type 1} → statement M
-at-least-zero-spec = tie.close (tie.spec is-negative-requires returns returns-2)
+at-least-zero-spec = tie.close (tie.spec (search needs) returns returns-2)

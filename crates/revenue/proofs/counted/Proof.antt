@@ -57,9 +57,6 @@ returns-5 c =
     counts (read s) (s .pre)
     (additional-in (a .cmr) (a .kind) (a .amount) (c .before .before .before .if1 .left) (c .before .before .if3 .left) (c .before .if4 .left) (c .if5 .taken))
 
-minus-requires : tie.Need-minus-requires
-minus-requires c κs = search needs
-
 returns-6 : tie.Need-returns-6
 returns-6 c =
     let s = c .before .before .before .before .before in
@@ -68,4 +65,4 @@ returns-6 c =
     (cost-in (a .cmr) (a .kind) (a .amount) (c .before .before .before .before .if1 .left) (c .before .before .before .if3 .left) (c .before .before .if4 .left) (c .before .if5 .left))
 
 pub counted-spec : {M : Type 1} → statement M
-counted-spec = tie.close (tie.spec returns returns-2 returns-3 returns-4 returns-5 minus-requires returns-6)
+counted-spec = tie.close (tie.spec returns returns-2 returns-3 returns-4 returns-5 (search needs) returns-6)

@@ -27,9 +27,6 @@ returns c =
     let s = c .before .before .before in
     (rw (amount (c .before .before), eq-eqb _ _ (c .if1 .taken)), rw (amount (c .before .before)) (omega (arith, s .pre .0)))
 
-scaled-requires : tie.Need-scaled-requires
-scaled-requires c κs = search needs
-
 returns-2 : tie.Need-returns-2
 unfolding poundsOf
 returns-2 c =
@@ -40,4 +37,4 @@ returns-2 c =
     )
 
 pub pounds-spec : {M : Type 1} → statement M
-pounds-spec = tie.close (tie.spec returns scaled-requires returns-2)
+pounds-spec = tie.close (tie.spec returns (search needs) returns-2)

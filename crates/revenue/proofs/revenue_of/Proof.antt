@@ -28,27 +28,15 @@ sum c = wire (c .total .result) (c .total .ok) ∙ c .total .ensures
 within : (c : tie.After-within) → leb (natAbs (assessedRevenue (c .before .before .before .before .before .before .args .y))) 1000000000 ≡ c .within .result
 within c = sym (rw (sum (c .before)) at (c .within .ensures))
 
-check-year-requires : tie.Need-check-year-requires
-check-year-requires c κs = search needs
-
-enum-known-answer : tie.Need-enum-known-answer
-enum-known-answer c = search needs
-
 returns : tie.Need-returns
 returns c =
     let a = c .before .before .before in
     gives-bad (a .before .args .y) (c .before .answer .given .0 .0) (sym (ap answerNumber (c .before .answer .given .1)) ∙ a .check-year .ensures)
 
-enum-told : tie.Need-enum-told
-enum-told c = search needs
-
 total-requires : tie.Need-total-requires
 total-requires c κs =
     let s = year-says (c .before .before .before .before .args .y) (good (c .before)) in
     (s .lines, s .rate)
-
-within-requires : tie.Need-within-requires
-within-requires c κs = search needs
 
 returns-2 : tie.Need-returns-2
 returns-2 c =
@@ -63,12 +51,4 @@ returns-3 c =
 pub revenue-of-spec : {M : Type 1} → statement M
 revenue-of-spec =
     tie.close
-    (tie.spec
-    check-year-requires
-    enum-known-answer
-    returns
-    enum-told
-    total-requires
-    within-requires
-    returns-2
-    returns-3)
+    (tie.spec (search needs) (search needs) returns (search needs) total-requires (search needs) returns-2 returns-3)

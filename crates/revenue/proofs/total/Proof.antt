@@ -55,20 +55,8 @@ pounds-requires c κs =
 counted-requires : tie.Need-counted-requires Inv-loop μ-loop
 counted-requires c κs = rw (wire (c .pounds .result) (c .pounds .ok)) (c .pounds .ensures .1)
 
-plus-requires : tie.Need-plus-requires Inv-loop μ-loop
-plus-requires c κs = search needs
-
 counted-requires-2 : tie.Need-counted-requires-2 Inv-loop μ-loop
 counted-requires-2 c κs = let p = c .before .before in rw (wire (p .pounds .result) (p .pounds .ok)) (p .pounds .ensures .1)
-
-plus-requires-2 : tie.Need-plus-requires-2 Inv-loop μ-loop
-plus-requires-2 c κs = search needs
-
-add-k : tie.Need-add-k Inv-loop μ-loop
-add-k c = search needs
-
-loop-less : tie.Need-loop-less Inv-loop μ-loop
-loop-less c = search needs
 
 loop-again : tie.Need-loop-again Inv-loop μ-loop
 loop-again c =
@@ -88,12 +76,6 @@ loop-again c =
           (wire (c .plus2 .result) (c .plus2 .ok) ∙ rw (wire (d .counted2 .result) (d .counted2 .ok)) at (c .plus2 .ensures)),
     )
 
-at-least-zero-requires : tie.Need-at-least-zero-requires Inv-loop μ-loop
-at-least-zero-requires c κs = search needs
-
-plus-requires-3 : tie.Need-plus-requires-3 Inv-loop μ-loop
-plus-requires-3 c κs = search needs
-
 returns : tie.Need-returns Inv-loop μ-loop
 returns c =
     let z = c .before in
@@ -107,20 +89,5 @@ returns c =
 pub total-spec : {M : Type 1} → statement M
 total-spec =
     tie.close
-    (tie.spec
-    Inv-loop
-    μ-loop
-    loop-holds
-    mul-l
-    array-copy-out-l
-    pounds-requires
-    counted-requires
-    plus-requires
-    counted-requires-2
-    plus-requires-2
-    add-k
-    loop-less
-    loop-again
-    at-least-zero-requires
-    plus-requires-3
-    returns)
+    (tie.spec Inv-loop μ-loop loop-holds mul-l array-copy-out-l pounds-requires counted-requires (search needs) counted-requires-2 (search needs)
+    (search needs) (λ c. search needs) loop-again (search needs) (search needs) returns)

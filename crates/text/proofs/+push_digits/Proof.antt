@@ -29,34 +29,10 @@ push-digits-returns : (t : ℕ) → push-digits-lts.Need-returns (told t) (push-
 unfolding pushed digits
 push-digits-returns t c = rw (c .if1 .taken)
 
-push-digits-add-push : (t : ℕ) → push-digits-lts.Need-add-push (told t) (push-digits-at t) push-digits.Post
-push-digits-add-push t c = omega arith
-
-push-digits-cast-push : (t : ℕ) → push-digits-lts.Need-cast-push (told t) (push-digits-at t) push-digits.Post
-push-digits-cast-push t c = omega arith
-
-push-digits-push-requires : (t : ℕ) → push-digits-lts.Need-push-requires (told t) (push-digits-at t) push-digits.Post
-push-digits-push-requires t c κs = tt
-
 push-digits-returns-2 : (t : ℕ) → push-digits-lts.Need-returns-2 (told t) (push-digits-at t) push-digits.Post
 push-digits-returns-2 t c =
     let e = c .before .before in
     rw (digits-one (e .before .args .k) (e .before .args .n) (e .if1 .left) (omega arith)) (c .push .ensures)
-
-push-digits-sub-push-digits : (t : ℕ) → push-digits-lts.Need-sub-push-digits (told t) (push-digits-at t) push-digits.Post
-push-digits-sub-push-digits t c = omega arith
-
-push-digits-push-digits-requires : (t : ℕ) → push-digits-lts.Need-push-digits-requires (told t) (push-digits-at t) push-digits.Post
-push-digits-push-digits-requires t c κs = (omega arith, tt)
-
-push-digits-add-push-2 : (t : ℕ) → push-digits-lts.Need-add-push-2 (told t) (push-digits-at t) push-digits.Post
-push-digits-add-push-2 t c = omega arith
-
-push-digits-cast-push-2 : (t : ℕ) → push-digits-lts.Need-cast-push-2 (told t) (push-digits-at t) push-digits.Post
-push-digits-cast-push-2 t c = omega arith
-
-push-digits-push-requires-2 : (t : ℕ) → push-digits-lts.Need-push-requires-2 (told t) (push-digits-at t) push-digits.Post
-push-digits-push-requires-2 t c κs = tt
 
 push-digits-returns-3 : (t : ℕ) → push-digits-lts.Need-returns-3 (told t) (push-digits-at t) push-digits.Post
 push-digits-returns-3 t c =
@@ -68,13 +44,13 @@ pub +push-digits-spec : {M : Type 1} → statement M
     close μ-push-digits
     (λ t. push-digits-lts.spec (told t) (push-digits-at t) push-digits.Post
     (push-digits-returns t)
-    (push-digits-add-push t)
-    (push-digits-cast-push t)
-    (push-digits-push-requires t)
+    (λ c. omega arith)
+    (λ c. omega arith)
+    (λ c κs. tt)
     (push-digits-returns-2 t)
-    (push-digits-sub-push-digits t)
-    (push-digits-push-digits-requires t)
-    (push-digits-add-push-2 t)
-    (push-digits-cast-push-2 t)
-    (push-digits-push-requires-2 t)
+    (λ c. omega arith)
+    (λ c κs. (omega arith, tt))
+    (λ c. omega arith)
+    (λ c. omega arith)
+    (λ c κs. tt)
     (push-digits-returns-3 t))

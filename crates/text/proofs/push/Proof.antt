@@ -9,15 +9,9 @@ returns : tie.Need-returns
 unfolding pushed
 returns c = rw (le-ltb (c .before .args .t .length) 64 (omega arith))
 
-element-write-next : tie.Need-element-write-next
-element-write-next c = search needs
-
-add-next : tie.Need-add-next
-add-next c = search needs
-
 returns-2 : tie.Need-returns-2
 unfolding pushed
 returns-2 c = rw (lt-ltb (c .before .args .t .length) 64 (omega arith))
 
 pub push-spec : {M : Type 1} → statement M
-push-spec = tie.close (tie.spec returns element-write-next add-next returns-2)
+push-spec = tie.close (tie.spec returns (search needs) (search needs) returns-2)

@@ -15,21 +15,6 @@ Inv-loop s next₀ i₀ next i = (i ≤ length s) × (pushed next₀ s ≡ pushe
 abbrev μ-loop : tie.MeasureT-loop
 μ-loop s next₀ i₀ next i = length s - i
 
-loop-holds : tie.Need-loop-holds Inv-loop μ-loop
-loop-holds c = search needs
-
-shared-slice-read-push : tie.Need-shared-slice-read-push Inv-loop μ-loop
-shared-slice-read-push c = search needs
-
-push-requires : tie.Need-push-requires Inv-loop μ-loop
-push-requires c κs = search needs
-
-add-i : tie.Need-add-i Inv-loop μ-loop
-add-i c = search needs
-
-loop-less : tie.Need-loop-less Inv-loop μ-loop
-loop-less c = search needs
-
 loop-again : tie.Need-loop-again Inv-loop μ-loop
 unfolding pushed
 loop-again c =
@@ -47,13 +32,4 @@ returns c =
 pub push-all-spec : {M : Type 1} → statement M
 push-all-spec =
     tie.close
-    (tie.spec
-    Inv-loop
-    μ-loop
-    loop-holds
-    shared-slice-read-push
-    push-requires
-    add-i
-    loop-less
-    loop-again
-    returns)
+    (tie.spec Inv-loop μ-loop (λ c. search needs) (search needs) (search needs) (search needs) (λ c. search needs) loop-again returns)

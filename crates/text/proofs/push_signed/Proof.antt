@@ -13,18 +13,6 @@ use Rattle.text.proofs.push_signed.Tie as tie
 sign : (c : tie.After-is-negative) → ltZ (c .before .args .z) (pos 0) ≡ c .is-negative .result
 sign c = sym (rw (toZ-ofZ (c .before .fits .z)) at (c .is-negative .ensures))
 
-is-negative-requires : tie.Need-is-negative-requires
-is-negative-requires c κs = search needs
-
-push-requires : tie.Need-push-requires
-push-requires c κs = search needs
-
-magnitude-requires : tie.Need-magnitude-requires
-magnitude-requires c κs = search needs
-
-push-decimal-requires : tie.Need-push-decimal-requires
-push-decimal-requires c κs = search needs
-
 returns : tie.Need-returns
 returns c =
     let m = c .before in
@@ -33,12 +21,6 @@ returns c =
     let e : m .magnitude .result ≡ natAbs (s .args .z) = m .magnitude .ensures ∙ ap natAbs (toZ-ofZ (s .fits .z)) in
     rw (signed-below (s .args .z) (sign (t .before) ∙ t .if1 .taken), ← e)
     (rw (pushed-append (s .args .t) (45 ∷ []) (decimal (m .magnitude .result)), ← (m .before .push .ensures)) (c .push-decimal .ensures))
-
-magnitude-requires-2 : tie.Need-magnitude-requires-2
-magnitude-requires-2 c κs = search needs
-
-push-decimal-requires-2 : tie.Need-push-decimal-requires-2
-push-decimal-requires-2 c κs = search needs
 
 returns-2 : tie.Need-returns-2
 returns-2 c =
@@ -51,12 +33,4 @@ returns-2 c =
 pub push-signed-spec : {M : Type 1} → statement M
 push-signed-spec =
     tie.close
-    (tie.spec
-    is-negative-requires
-    push-requires
-    magnitude-requires
-    push-decimal-requires
-    returns
-    magnitude-requires-2
-    push-decimal-requires-2
-    returns-2)
+    (tie.spec (search needs) (search needs) (search needs) (search needs) returns (search needs) (search needs) returns-2)

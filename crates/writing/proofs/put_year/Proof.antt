@@ -55,9 +55,6 @@ put-within-requires c κs =
     let s = a .before .before .before .before .before in
     rw (back s) (within-room (s .args .y) (s .args .out .now) (s .pre .1) (a .put-required .ensures) (b .put-factors .ensures) (d .put-lines .ensures) (e .put-outages .ensures) (f .put-mark .ensures))
 
-same-length : tie.Need-same-length
-same-length c = search needs
-
 returns : tie.Need-returns
 returns c =
     let g = c .before .before in
@@ -72,12 +69,5 @@ returns c =
 pub put-year-spec : {M : Type 1} → statement M
 put-year-spec =
     tie.close
-    (tie.spec
-    put-required-requires
-    put-factors-requires
-    put-lines-requires
-    put-outages-requires
-    put-mark-requires
-    put-within-requires
-    same-length
+    (tie.spec put-required-requires put-factors-requires put-lines-requires put-outages-requires put-mark-requires put-within-requires (search needs)
     returns)

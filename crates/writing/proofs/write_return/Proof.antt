@@ -48,20 +48,11 @@ no-room c =
     let a = t .before .before .before .before .args in
     gives-no-room (a .y) (a .out .now) (valid t) (omega (arith, sized (c .before), c .if1 .taken))
 
-check-filing-requires : tie.Need-check-filing-requires
-check-filing-requires c κs = search needs
-
-enum-known-answer : tie.Need-enum-known-answer
-enum-known-answer c = search needs
-
 returns : tie.Need-returns
 returns c =
     let k = c .before .before .before in
     let a = k .before .before .args in
     gives-refused (a .y) (a .out .now) (c .before .answer .given .0 .0) (sym (ap answerNumber (c .before .answer .given .1)) ∙ k .check-filing .ensures)
-
-enum-told : tie.Need-enum-told
-enum-told c = search needs
 
 size-of-requires : tie.Need-size-of-requires
 size-of-requires c κs =
@@ -77,9 +68,6 @@ put-year-requires c κs =
     let e = c .before in
     (valid (e .before .before .before), omega (arith, sized (e .before), e .if1 .left))
 
-same-length : tie.Need-same-length
-same-length c = search needs
-
 returns-3 : tie.Need-returns-3
 returns-3 c =
     let p = c .before .before in
@@ -91,13 +79,4 @@ returns-3 c =
 pub write-return-spec : {M : Type 1} → statement M
 write-return-spec =
     tie.close
-    (tie.spec
-    check-filing-requires
-    enum-known-answer
-    returns
-    enum-told
-    size-of-requires
-    returns-2
-    put-year-requires
-    same-length
-    returns-3)
+    (tie.spec (search needs) (search needs) returns (search needs) size-of-requires returns-2 put-year-requires (search needs) returns-3)

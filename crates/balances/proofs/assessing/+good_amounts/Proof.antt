@@ -42,27 +42,6 @@ told t = (
 good-amounts-returns : (t : ℕ) → good-amounts-lts.Need-returns (told t) (good-amounts-at t) good-amounts.Post
 good-amounts-returns t c = let a = c .before .args in sym (good-none (a .t1) (a .t2) (a .n) (c .if1 .taken))
 
-good-amounts-sub-i : (t : ℕ) → good-amounts-lts.Need-sub-i (told t) (good-amounts-at t) good-amounts.Post
-good-amounts-sub-i t c = omega arith
-
-good-amounts-mul-i : (t : ℕ) → good-amounts-lts.Need-mul-i (told t) (good-amounts-at t) good-amounts.Post
-good-amounts-mul-i t c = omega arith
-
-good-amounts-array-read-i : (t : ℕ) → good-amounts-lts.Need-array-read-i (told t) (good-amounts-at t) good-amounts.Post
-good-amounts-array-read-i t c = omega arith
-
-good-amounts-sub-amount : (t : ℕ) → good-amounts-lts.Need-sub-amount (told t) (good-amounts-at t) good-amounts.Post
-good-amounts-sub-amount t c = omega arith
-
-good-amounts-mul-amount : (t : ℕ) → good-amounts-lts.Need-mul-amount (told t) (good-amounts-at t) good-amounts.Post
-good-amounts-mul-amount t c = omega arith
-
-good-amounts-array-copy-out-amount : (t : ℕ) → good-amounts-lts.Need-array-copy-out-amount (told t) (good-amounts-at t) good-amounts.Post
-good-amounts-array-copy-out-amount t c = omega arith
-
-good-amounts-good-index-requires : (t : ℕ) → good-amounts-lts.Need-good-index-requires (told t) (good-amounts-at t) good-amounts.Post
-good-amounts-good-index-requires t c κs = tt
-
 -- ---- the two tests of the last year
 index-is : (t : ℕ) (c : good-amounts-lts.After-good-index (told t) (good-amounts-at t) good-amounts.Post)
     → goodIndex (getD (c .before .before .before .args .t1) (c .before .before .before .args .n - 1) 0) ≡ c .good-index .result
@@ -82,20 +61,11 @@ good-amounts-returns-2 t c =
     let a = e .before .args in
     bad-index (a .t1) (a .t2) (a .n) (e .if1 .left) (index-is t (c .before) ∙ not-yes (c .before .good-index .result) (c .if2 .taken))
 
-good-amounts-within-requires : (t : ℕ) → good-amounts-lts.Need-within-requires (told t) (good-amounts-at t) good-amounts.Post
-good-amounts-within-requires t c κs = tt
-
 good-amounts-returns-3 : (t : ℕ) → good-amounts-lts.Need-returns-3 (told t) (good-amounts-at t) good-amounts.Post
 good-amounts-returns-3 t c =
     let e = c .before .before .before .before .before in
     let a = e .before .args in
     bad-amount (a .t1) (a .t2) (a .n) (e .if1 .left) (good-here t (c .before .before)) (amount-is t (c .before) ∙ not-yes (c .before .within .result) (c .if3 .taken))
-
-good-amounts-sub-good-amounts : (t : ℕ) → good-amounts-lts.Need-sub-good-amounts (told t) (good-amounts-at t) good-amounts.Post
-good-amounts-sub-good-amounts t c = omega arith
-
-good-amounts-good-amounts-requires : (t : ℕ) → good-amounts-lts.Need-good-amounts-requires (told t) (good-amounts-at t) good-amounts.Post
-good-amounts-good-amounts-requires t c κs = (omega arith, omega arith)
 
 good-amounts-returns-4 : (t : ℕ) → good-amounts-lts.Need-returns-4 (told t) (good-amounts-at t) good-amounts.Post
 good-amounts-returns-4 t c =
@@ -110,16 +80,16 @@ pub +good-amounts-spec : {M : Type 1} → statement M
     close μ-good-amounts
     (λ t. good-amounts-lts.spec (told t) (good-amounts-at t) good-amounts.Post
     (good-amounts-returns t)
-    (good-amounts-sub-i t)
-    (good-amounts-mul-i t)
-    (good-amounts-array-read-i t)
-    (good-amounts-sub-amount t)
-    (good-amounts-mul-amount t)
-    (good-amounts-array-copy-out-amount t)
-    (good-amounts-good-index-requires t)
+    (λ c. omega arith)
+    (λ c. omega arith)
+    (λ c. omega arith)
+    (λ c. omega arith)
+    (λ c. omega arith)
+    (λ c. omega arith)
+    (λ c κs. tt)
     (good-amounts-returns-2 t)
-    (good-amounts-within-requires t)
+    (λ c κs. tt)
     (good-amounts-returns-3 t)
-    (good-amounts-sub-good-amounts t)
-    (good-amounts-good-amounts-requires t)
+    (λ c. omega arith)
+    (λ c κs. (omega arith, omega arith))
     (good-amounts-returns-4 t))

@@ -33,18 +33,6 @@ told t = (is-negative-reads.Asked, is-negative-reads.Learnt, not-negative-below 
 not-negative-returns : (t : ℕ) → not-negative-lts.Need-returns (told t) (not-negative-at t) not-negative.Post
 not-negative-returns t c = let a = c .before .args in sym (positive-none (a .t1) (a .n) (c .if1 .taken))
 
-not-negative-sub-amount : (t : ℕ) → not-negative-lts.Need-sub-amount (told t) (not-negative-at t) not-negative.Post
-not-negative-sub-amount t c = omega arith
-
-not-negative-mul-amount : (t : ℕ) → not-negative-lts.Need-mul-amount (told t) (not-negative-at t) not-negative.Post
-not-negative-mul-amount t c = omega arith
-
-not-negative-array-copy-out-amount : (t : ℕ) → not-negative-lts.Need-array-copy-out-amount (told t) (not-negative-at t) not-negative.Post
-not-negative-array-copy-out-amount t c = omega arith
-
-not-negative-is-negative-requires : (t : ℕ) → not-negative-lts.Need-is-negative-requires (told t) (not-negative-at t) not-negative.Post
-not-negative-is-negative-requires t c κs = tt
-
 -- the last year's test
 sign-is : (t : ℕ) (c : not-negative-lts.After-is-negative (told t) (not-negative-at t) not-negative.Post)
     → nonNeg (getD (c .before .before .before .args .t1) (c .before .before .before .args .n - 1) (pos 0)) ≡ not (c .is-negative .result)
@@ -58,12 +46,6 @@ not-negative-returns-2 t c =
     let a = e .before .args in
     negative (a .t1) (a .n) (e .if1 .left) (sign-is t (c .before) ∙ ap not (c .if2 .taken))
 
-not-negative-sub-not-negative : (t : ℕ) → not-negative-lts.Need-sub-not-negative (told t) (not-negative-at t) not-negative.Post
-not-negative-sub-not-negative t c = omega arith
-
-not-negative-not-negative-requires : (t : ℕ) → not-negative-lts.Need-not-negative-requires (told t) (not-negative-at t) not-negative.Post
-not-negative-not-negative-requires t c κs = (omega arith, omega arith)
-
 not-negative-returns-3 : (t : ℕ) → not-negative-lts.Need-returns-3 (told t) (not-negative-at t) not-negative.Post
 not-negative-returns-3 t c =
     let i = c .before .before in
@@ -76,11 +58,11 @@ pub +not-negative-spec : {M : Type 1} → statement M
     close μ-not-negative
     (λ t. not-negative-lts.spec (told t) (not-negative-at t) not-negative.Post
     (not-negative-returns t)
-    (not-negative-sub-amount t)
-    (not-negative-mul-amount t)
-    (not-negative-array-copy-out-amount t)
-    (not-negative-is-negative-requires t)
+    (λ c. omega arith)
+    (λ c. omega arith)
+    (λ c. omega arith)
+    (λ c κs. tt)
     (not-negative-returns-2 t)
-    (not-negative-sub-not-negative t)
-    (not-negative-not-negative-requires t)
+    (λ c. omega arith)
+    (λ c κs. (omega arith, omega arith))
     (not-negative-returns-3 t))

@@ -24,9 +24,6 @@ good c = sym (c .before .good-yearly .ensures) ∙ not-false _ (c .if1 .left)
 says : (c : tie.After-paid) → (let a = c .before .before .before .before .before .before .before .args in YearlySays (a .y) (a .n))
 says c = let e = c .before .before .before .before .before in yearly-says (e .before .before .args .y) (e .before .before .args .n) (good e)
 
-good-yearly-requires : tie.Need-good-yearly-requires
-good-yearly-requires c κs = search needs
-
 returns : tie.Need-returns
 returns c = rw (bad c) search needs
 
@@ -71,12 +68,4 @@ returns-2 c =
 pub assess-years-spec : {M : Type 1} → statement M
 assess-years-spec =
     tie.close
-    (tie.spec
-    good-yearly-requires
-    returns
-    balance-of-requires
-    balance-of-requires-2
-    balance-of-requires-3
-    balance-of-requires-4
-    found-requires
-    returns-2)
+    (tie.spec (search needs) returns balance-of-requires balance-of-requires-2 balance-of-requires-3 balance-of-requires-4 found-requires returns-2)

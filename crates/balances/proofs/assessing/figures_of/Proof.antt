@@ -12,9 +12,6 @@ use Rattle.balances.proofs.Answers.{same-less, between-small}
 use Rattle.balances.proofs.assessing.figures_of.Statement.{statement}
 use Rattle.balances.proofs.assessing.figures_of.Tie as tie
 
-held-between-requires : tie.Need-held-between-requires
-held-between-requires c κs = search needs
-
 -- T, and its magnitude
 held-is : (c : tie.After-held-between) → c .held-between .result ≡ heldBetween (c .before .args .revenue) (c .before .args .floor) (c .before .args .cap)
 held-is c = let f = c .before .fits in rw (toZ-ofZ (f .revenue), toZ-ofZ (f .floor), toZ-ofZ (f .cap)) at (c .held-between .ensures)
@@ -24,9 +21,6 @@ held-most c =
     let s = c .before in
     rw (held-is c) (between-small (s .args .revenue) (s .args .floor) (s .args .cap) mostBalance (s .pre .0) (s .pre .2) (s .pre .1))
 
-minus-requires : tie.Need-minus-requires
-minus-requires c κs = search needs
-
 -- T - A
 less-is : (c : tie.After-minus) → c .minus .result ≡ c .before .held-between .result -ℤ c .before .before .args .revenue
 less-is c =
@@ -35,9 +29,6 @@ less-is c =
     c .minus .ensures
     ∙ ap heldZ (same-less (wire t (c .before .held-between .ok)) (toZ-ofZ (c .before .before .fits .revenue)))
     ∙ held-small (t -ℤ a) (omega (arith, held-most (c .before), abs-sub t a))
-
-minus-requires-2 : tie.Need-minus-requires-2
-minus-requires-2 c κs = search needs
 
 -- T - A - W
 netted-is : (c : tie.After-minus2) → c .minus2 .result ≡ c .before .minus .result -ℤ c .before .before .before .args .paid
@@ -66,4 +57,4 @@ returns c =
     )
 
 pub figures-of-spec : {M : Type 1} → statement M
-figures-of-spec = tie.close (tie.spec held-between-requires minus-requires minus-requires-2 returns)
+figures-of-spec = tie.close (tie.spec (search needs) (search needs) (search needs) returns)

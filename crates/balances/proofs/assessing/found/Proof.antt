@@ -40,24 +40,6 @@ crossed-is : (c : tie.After-below) → ltZ (valueOf (start (c .before) .args .ca
 crossed-is c = sym (c .below .ensures ∙ same-below (cap-is (c .before)) (floor-is (c .before)))
 
 -- ---- the needs
-one-over-requires : tie.Need-one-over-requires
-one-over-requires c κs = search needs
-
-value-of-requires : tie.Need-value-of-requires
-value-of-requires c κs = search needs
-
-value-of-requires-2 : tie.Need-value-of-requires-2
-value-of-requires-2 c κs = search needs
-
-value-of-requires-3 : tie.Need-value-of-requires-3
-value-of-requires-3 c κs = search needs
-
-value-of-requires-4 : tie.Need-value-of-requires-4
-value-of-requires-4 c κs = search needs
-
-below-requires : tie.Need-below-requires
-below-requires c κs = search needs
-
 returns : tie.Need-returns
 returns c = rw (over-is (c .before .before) ∙ c .if1 .taken) search needs
 
@@ -96,14 +78,5 @@ returns-3 c =
 pub found-spec : {M : Type 1} → statement M
 found-spec =
     tie.close
-    (tie.spec
-    one-over-requires
-    value-of-requires
-    value-of-requires-2
-    value-of-requires-3
-    value-of-requires-4
-    below-requires
-    returns
-    returns-2
-    figures-of-requires
+    (tie.spec (search needs) (search needs) (search needs) (search needs) (search needs) (search needs) returns returns-2 figures-of-requires
     returns-3)

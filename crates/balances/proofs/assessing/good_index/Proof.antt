@@ -2,11 +2,5 @@ use Rattle.lists.proofs.Tests.{facts}
 use Rattle.balances.proofs.assessing.good_index.Statement.{statement}
 use Rattle.balances.proofs.assessing.good_index.Tie as tie
 
-returns : tie.Need-returns
-returns c = search facts
-
-returns-2 : tie.Need-returns-2
-returns-2 c = search facts
-
 pub good-index-spec : {M : Type 1} → statement M
-good-index-spec = tie.close (tie.spec returns returns-2)
+good-index-spec = tie.close (tie.spec (λ c. search facts) (λ c. search facts))

@@ -15,31 +15,19 @@ failed : {r b : Bool} → r ≡ b → not r ≡ true → b ≡ false
 failed e h = sym e ∙ not-true _ h
 
 -- ---- the needs
-good-amounts-requires : tie.Need-good-amounts-requires
-good-amounts-requires c κs = search needs
-
 returns : tie.Need-returns
 returns c = rw (failed (c .before .good-amounts .ensures) (c .if1 .taken))
-
-good-amounts-requires-2 : tie.Need-good-amounts-requires-2
-good-amounts-requires-2 c κs = search needs
 
 returns-2 : tie.Need-returns-2
 returns-2 c =
     let p = c .before .before in
     rw (passed (p .before .good-amounts .ensures) (p .if1 .left), failed (c .before .good-amounts2 .ensures) (c .if2 .taken))
 
-not-negative-requires : tie.Need-not-negative-requires
-not-negative-requires c κs = search needs
-
 returns-3 : tie.Need-returns-3
 returns-3 c =
     let q = c .before .before in
     let p = q .before .before in
     rw (passed (p .before .good-amounts .ensures) (p .if1 .left), passed (q .before .good-amounts2 .ensures) (q .if2 .left), failed (c .before .not-negative .ensures) (c .if3 .taken))
-
-good-amounts-requires-3 : tie.Need-good-amounts-requires-3
-good-amounts-requires-3 c κs = search needs
 
 -- revenue and cap are good
 half : (c : tie.Else3) → let y = c .before .before .before .before .before .before .before .before .before .before .before .args in goodRows (y .y) (y .n) ≡ goodAmounts (y .y .index) (y .y .floor) (y .n) && (notNegative (y .y .floor) (y .n) && goodAmounts (y .y .index) (y .y .within) (y .n))
@@ -51,16 +39,10 @@ half c =
 returns-4 : tie.Need-returns-4
 returns-4 c = rw (half (c .before .before), failed (c .before .good-amounts3 .ensures) (c .if4 .taken))
 
-not-negative-requires-2 : tie.Need-not-negative-requires-2
-not-negative-requires-2 c κs = search needs
-
 returns-5 : tie.Need-returns-5
 returns-5 c =
     let s = c .before .before in
     rw (half (s .before .before), passed (s .before .good-amounts3 .ensures) (s .if4 .left), failed (c .before .not-negative2 .ensures) (c .if5 .taken))
-
-good-amounts-requires-4 : tie.Need-good-amounts-requires-4
-good-amounts-requires-4 c κs = search needs
 
 returns-6 : tie.Need-returns-6
 returns-6 c =
@@ -71,16 +53,5 @@ returns-6 c =
 pub good-rows-spec : {M : Type 1} → statement M
 good-rows-spec =
     tie.close
-    (tie.spec
-    good-amounts-requires
-    returns
-    good-amounts-requires-2
-    returns-2
-    not-negative-requires
-    returns-3
-    good-amounts-requires-3
-    returns-4
-    not-negative-requires-2
-    returns-5
-    good-amounts-requires-4
-    returns-6)
+    (tie.spec (search needs) returns (search needs) returns-2 (search needs) returns-3 (search needs) returns-4 (search needs) returns-5
+    (search needs) returns-6)

@@ -10,9 +10,6 @@ use Rattle.balances.proofs.assessing.good_yearly.Tie as tie
 counted : (c : tie.Else1) → goodCount (c .before .before .args .n) ≡ true
 counted c = sym (c .before .good-count .ensures) ∙ not-false _ (c .if1 .left)
 
-good-count-requires : tie.Need-good-count-requires
-good-count-requires c κs = search needs
-
 returns : tie.Need-returns
 returns c = rw (sym (c .before .good-count .ensures) ∙ not-true _ (c .if1 .taken))
 
@@ -23,4 +20,4 @@ returns-2 : tie.Need-returns-2
 returns-2 c = rw (counted (c .before)) (c .good-rows .ensures)
 
 pub good-yearly-spec : {M : Type 1} → statement M
-good-yearly-spec = tie.close (tie.spec good-count-requires returns good-rows-requires returns-2)
+good-yearly-spec = tie.close (tie.spec (search needs) returns good-rows-requires returns-2)

@@ -17,15 +17,9 @@ high c = let f = c .before .before .before .fits in sym (rw (toZ-ofZ (f .cap), t
 not-low : (c : tie.Else1) → ltZ (c .before .before .args .revenue) (c .before .before .args .floor) ≡ false
 not-low c = low (c .before) ∙ c .if1 .left
 
-below-requires : tie.Need-below-requires
-below-requires c κs = search needs
-
 returns : tie.Need-returns
 unfolding heldBetween
 returns c = toZ-ofZ (c .before .before .fits .floor) ∙ rw (low (c .before) ∙ c .if1 .taken)
-
-below-requires-2 : tie.Need-below-requires-2
-below-requires-2 c κs = search needs
 
 returns-2 : tie.Need-returns-2
 unfolding heldBetween
@@ -36,4 +30,4 @@ unfolding heldBetween
 returns-3 c = let s = c .before .before .before .before in toZ-ofZ (s .fits .revenue) ∙ rw (not-low (c .before .before), high (c .before) ∙ c .if2 .left)
 
 pub held-between-spec : {M : Type 1} → statement M
-held-between-spec = tie.close (tie.spec below-requires returns below-requires-2 returns-2 returns-3)
+held-between-spec = tie.close (tie.spec (search needs) returns (search needs) returns-2 returns-3)

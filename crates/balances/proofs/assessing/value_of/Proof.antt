@@ -3,12 +3,6 @@ use Rattle.money.proofs.Pounds.{wire}
 use Rattle.balances.proofs.assessing.value_of.Statement.{statement}
 use Rattle.balances.proofs.assessing.value_of.Tie as tie
 
-enum-known-b : tie.Need-enum-known-b
-enum-known-b c = search needs
-
-enum-told : tie.Need-enum-told
-enum-told c = search needs
-
 returns : tie.Need-returns
 returns c = rw (c .before .b .given .1) (wire _ (c .known-told .given .0 .1))
 
@@ -16,4 +10,4 @@ returns-2 : tie.Need-returns-2
 returns-2 c = rw (c .enum-told .given .1)
 
 pub value-of-spec : {M : Type 1} → statement M
-value-of-spec = tie.close (tie.spec enum-known-b enum-told returns returns-2)
+value-of-spec = tie.close (tie.spec (search needs) (search needs) returns returns-2)

@@ -73,20 +73,11 @@ carried-brought-on-requires t c κs =
       index-good (a .index) (a .t2) (a .at + a .left + 1) (s .pre .1 .1) (a .at + 1) (h .0),
     )
 
-carried-add-amount : (t : ℕ) → carried-lts.Need-add-amount (told t) (carried-at t) carried.Post
-carried-add-amount t c = omega arith
-
 carried-mul-amount : (t : ℕ) → carried-lts.Need-mul-amount (told t) (carried-at t) carried.Post
 carried-mul-amount t c = let h = next-year t (c .before) in omega arith
 
 carried-array-copy-out-amount : (t : ℕ) → carried-lts.Need-array-copy-out-amount (told t) (carried-at t) carried.Post
 carried-array-copy-out-amount t c = let h = next-year t (c .before) in omega arith
-
-carried-plus-requires : (t : ℕ) → carried-lts.Need-plus-requires (told t) (carried-at t) carried.Post
-carried-plus-requires t c κs = tt
-
-carried-within-requires : (t : ℕ) → carried-lts.Need-within-requires (told t) (carried-at t) carried.Post
-carried-within-requires t c κs = tt
 
 -- what is brought on
 brought-is : (t : ℕ) (c : carried-lts.After-brought-on (told t) (carried-at t) carried.Post)
@@ -114,12 +105,6 @@ test-is t c =
     sym (c .within .ensures ∙ ap (λ (z : ℤ). leb (natAbs z) mostBalance) (wire (c .before .plus .result) (c .before .plus .ok) ∙ next-is t (c .before)))
 
 -- ---- the years after it
-carried-add-carried : (t : ℕ) → carried-lts.Need-add-carried (told t) (carried-at t) carried.Post
-carried-add-carried t c = omega arith
-
-carried-sub-carried : (t : ℕ) → carried-lts.Need-sub-carried (told t) (carried-at t) carried.Post
-carried-sub-carried t c = omega arith
-
 carried-carried-requires : (t : ℕ) → carried-lts.Need-carried-requires (told t) (carried-at t) carried.Post
 carried-carried-requires t c κs =
     let n = c .before .before in
@@ -152,13 +137,13 @@ pub +carried-spec : {M : Type 1} → statement M
     (λ t. carried-lts.spec (told t) (carried-at t) carried.Post
     (carried-returns t)
     (carried-brought-on-requires t)
-    (carried-add-amount t)
+    (λ c. omega arith)
     (carried-mul-amount t)
     (carried-array-copy-out-amount t)
-    (carried-plus-requires t)
-    (carried-within-requires t)
-    (carried-add-carried t)
-    (carried-sub-carried t)
+    (λ c κs. tt)
+    (λ c κs. tt)
+    (λ c. omega arith)
+    (λ c. omega arith)
     (carried-carried-requires t)
     (carried-returns-2 t)
     (carried-returns-3 t))

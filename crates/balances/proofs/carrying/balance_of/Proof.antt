@@ -19,12 +19,6 @@ first-is c = wire _ (c .first .given)
 all-years : (n : ℕ) → 1 ≤ n → 0 + (n - 1) + 1 ≡ n
 all-years n h = omega arith
 
-array-copy-out-first : tie.Need-array-copy-out-first
-array-copy-out-first c = search needs
-
-sub-carried : tie.Need-sub-carried
-sub-carried c = search needs
-
 carried-requires : tie.Need-carried-requires
 carried-requires c κs =
     let s = c .before in (
@@ -38,4 +32,4 @@ returns : tie.Need-returns
 returns c = let a = c .before .before .args in c .carried .ensures ∙ from-first (a .index) (a .t2) (a .n)
 
 pub balance-of-spec : {M : Type 1} → statement M
-balance-of-spec = tie.close (tie.spec array-copy-out-first sub-carried carried-requires returns)
+balance-of-spec = tie.close (tie.spec (search needs) (search needs) carried-requires returns)

@@ -8,21 +8,6 @@ use Rattle.balances.proofs.Ranges.{index-low, index-high}
 use Rattle.balances.proofs.carrying.brought_on.Statement.{statement}
 use Rattle.balances.proofs.carrying.brought_on.Tie as tie
 
-mul-before : tie.Need-mul-before
-mul-before c = search needs
-
-array-read-before : tie.Need-array-read-before
-array-read-before c = search needs
-
-add-now : tie.Need-add-now
-add-now c = search needs
-
-mul-now : tie.Need-mul-now
-mul-now c = search needs
-
-array-read-now : tie.Need-array-read-now
-array-read-now c = search needs
-
 carry-requires : tie.Need-carry-requires
 carry-requires c κs =
     let before = getD (c .args .t1) (c .args .at) 0 in
@@ -37,4 +22,4 @@ returns : tie.Need-returns
 returns c = rw (wire (c .carry .result) (c .carry .ok)) (rw (toZ-ofZ (c .before .fits .balance)) at (c .carry .ensures))
 
 pub brought-on-spec : {M : Type 1} → statement M
-brought-on-spec = tie.close (tie.spec mul-before array-read-before add-now mul-now array-read-now carry-requires returns)
+brought-on-spec = tie.close (tie.spec (search needs) (search needs) (search needs) (search needs) (search needs) carry-requires returns)

@@ -8,15 +8,6 @@ use Rattle.balances.proofs.Years.{carry-is, carry-small}
 use Rattle.balances.proofs.carrying.carry.Statement.{statement}
 use Rattle.balances.proofs.carrying.carry.Tie as tie
 
-mul-scaled : tie.Need-mul-scaled
-mul-scaled c = search needs
-
-mul-scaled-2 : tie.Need-mul-scaled-2
-mul-scaled-2 c = search needs
-
-scaled-requires : tie.Need-scaled-requires
-scaled-requires c κs = search needs
-
 result : (c : tie.After-scaled) → c .scaled .result ≡ scaledOf (c .before .args .balance) (10388 * c .before .args .now) (10000 * c .before .args .before)
 result c = rw (toZ-ofZ (c .before .fits .balance)) at (c .scaled .ensures)
 
@@ -28,4 +19,4 @@ returns c =
     (carry-is (s .args .balance) (s .args .before) (s .args .now) (p .0) (p .1) (p .3), carry-small (s .args .balance) (s .args .before) (s .args .now) (p .0) (p .1) (p .3))
 
 pub carry-spec : {M : Type 1} → statement M
-carry-spec = tie.close (tie.spec mul-scaled mul-scaled-2 scaled-requires returns)
+carry-spec = tie.close (tie.spec (search needs) (search needs) (search needs) returns)

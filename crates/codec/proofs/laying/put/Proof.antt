@@ -16,22 +16,10 @@ returns c =
 returns-2 : tie.Need-returns-2
 returns-2 c = unwritten _ _ _ (omega arith)
 
-sub-if3 : tie.Need-sub-if3
-sub-if3 c = search needs
-
 returns-3 : tie.Need-returns-3
 returns-3 c =
     let a = c .before .before .before .before .args in
     rw (bytes-there (a .n) (a .v) (omega arith)) (unwritten _ _ _ (omega (arith, bytes-length (a .n) (a .v))))
-
-lay-requires : tie.Need-lay-requires
-lay-requires c κs = search needs
-
-add-result : tie.Need-add-result
-add-result c = search needs
-
-same-length : tie.Need-same-length
-same-length c = search needs
 
 returns-4 : tie.Need-returns-4
 returns-4 c =
@@ -40,4 +28,4 @@ returns-4 c =
     rw (bytes-there (a .n) (a .v) (omega arith)) (written (omega arith) (record { is = c .before .before .lay .ensures; to = rw l }))
 
 pub put-spec : {M : Type 1} → statement M
-put-spec = tie.close (tie.spec returns returns-2 sub-if3 returns-3 lay-requires add-result same-length returns-4)
+put-spec = tie.close (tie.spec returns returns-2 (search needs) returns-3 (search needs) (search needs) (search needs) returns-4)

@@ -27,25 +27,10 @@ returns c =
 returns-2 : tie.Need-returns-2
 returns-2 c = unwritten _ _ _ (omega arith)
 
-sub-if3 : tie.Need-sub-if3
-sub-if3 c = search needs
-
-add-if3 : tie.Need-add-if3
-add-if3 c = search needs
-
 returns-3 : tie.Need-returns-3
 returns-3 c =
     let a = c .before .before .before .before .args in
     rw (field-bytes-there (a .tag) (a .n) (a .v) (omega arith)) (unwritten _ _ _ (omega (arith, size (a .tag) (a .n) (a .v))))
-
-put-head-requires : tie.Need-put-head-requires
-put-head-requires c κs = search needs
-
-put-requires : tie.Need-put-requires
-put-requires c κs = search needs
-
-same-length : tie.Need-same-length
-same-length c = search needs
 
 returns-4 : tie.Need-returns-4
 returns-4 c =
@@ -59,13 +44,4 @@ returns-4 c =
 pub put-number-spec : {M : Type 1} → statement M
 put-number-spec =
     tie.close
-    (tie.spec
-    returns
-    returns-2
-    sub-if3
-    add-if3
-    returns-3
-    put-head-requires
-    put-requires
-    same-length
-    returns-4)
+    (tie.spec returns returns-2 (search needs) (search needs) returns-3 (search needs) (search needs) (search needs) returns-4)

@@ -3,23 +3,14 @@ use borrow.Author.Tests.{eq-eqb, ne-eqb}
 use mathlib.Core.Path.{_∙_}
 use Rattle.filing.proofs.Factors.are_left_out.Statement.{statement}
 use Rattle.filing.proofs.Factors.are_left_out.Tie as tie
-use Rattle.filing.proofs.Factors.are_left_out.Reads as reads
-use Rattle.filing.proofs.Factors.are_left_out.Lts as lts
-use Rattle.filing.proofs.Factors.left_out.Reads as left-out-reads
 
--- src/lib.rt:70:13
-left-out-requires : tie.Need-left-out-requires
-left-out-requires c κs = search needs
-
--- src/lib.rt:72:13
 returns : tie.Need-returns
 returns c = rw (← c .before .before .before .left-out .ensures .0, ne-eqb _ _ (c .if1 .taken))
 
--- src/lib.rt:67:5
 returns-2 : tie.Need-returns-2
 returns-2 c =
     let gave = c .before .before .before .before .before .left-out .ensures in
     rw (eq-eqb _ _ (c .before .before .if1 .left ∙ gave .0), gave .1)
 
 pub are-left-out-spec : {M : Type 1} → statement M
-are-left-out-spec = tie.close (tie.spec left-out-requires returns returns-2)
+are-left-out-spec = tie.close (tie.spec (search needs) returns returns-2)

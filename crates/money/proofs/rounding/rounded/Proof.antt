@@ -14,18 +14,9 @@ returns-2 : tie.Need-returns-2
 unfolding roundedOf
 returns-2 c = simp (lt-ltb _ _ (c .before .if1 .left), lt-leb _ 1000000000000 (c .if2 .taken))
 
-up-requires : tie.Need-up-requires
-up-requires c κs = search needs
-
-sub-if3 : tie.Need-sub-if3
-sub-if3 c = search needs
-
 returns-3 : tie.Need-returns-3
 unfolding roundedOf
 returns-3 c = let s = c .before .before in simp (lt-ltb _ _ (s .before .if1 .left), le-leb _ 1000000000000 (s .if2 .left)) (omega arith)
-
-add-result : tie.Need-add-result
-add-result c = search needs
 
 returns-4 : tie.Need-returns-4
 unfolding roundedOf
@@ -33,4 +24,4 @@ returns-4 c = let s = c .before .before in simp (lt-ltb _ _ (s .before .if1 .lef
 
 pub rounded-spec : {M : Type 1} → statement M
 rounded-spec =
-    tie.close (tie.spec returns returns-2 up-requires sub-if3 returns-3 add-result returns-4)
+    tie.close (tie.spec returns returns-2 (search needs) (search needs) returns-3 (search needs) returns-4)

@@ -17,9 +17,6 @@ use Rattle.money.proofs.Nearest.{round-le-self, round-times, debit-on, 
 use Rattle.money.proofs.rounding.scaled.Statement.{statement}
 use Rattle.money.proofs.rounding.scaled.Tie as tie
 
-within-requires : tie.Need-within-requires
-within-requires c κs = search needs
-
 test-is : (c : tie.After-within) → c .within .result ≡ leb (natAbs (c .before .args .z)) 10000000000
 test-is c = rw (toZ-ofZ (c .before .fits .z)) at (c .within .ensures)
 
@@ -44,9 +41,6 @@ start c = c .before .before .before .before
 over-some : (c : tie.Else3) → 0 < start c .args .over
 over-some c = let h = c .if3 .left in omega arith
 
-magnitude-requires : tie.Need-magnitude-requires
-magnitude-requires c κs = search needs
-
 -- the magnitude times the factor
 abbrev n : tie.After-magnitude → ℕ
 n c = natAbs (start (c .before) .args .z) * start (c .before) .args .by
@@ -61,15 +55,6 @@ product-small c = mul-le-mul (near (c .before .before .before)) (c .before .befo
 
 mul-n : tie.Need-mul-n
 mul-n c = record { fits = omega (arith, product c, product-small c) }
-
-div-rounded : tie.Need-div-rounded
-div-rounded c = search needs
-
-rem-rounded : tie.Need-rem-rounded
-rem-rounded c = search needs
-
-rounded-requires : tie.Need-rounded-requires
-rounded-requires c κs = search needs
 
 -- ---- divided and rounded
 module _ (c : tie.After-rounded) where
@@ -98,17 +83,8 @@ module _ (c : tie.After-rounded) where
       sym (round-times (s .args .z) (s .args .by) (s .args .over) (over-some k)) ∙
       sym (scaled-is (s .args .z) (s .args .by) (s .args .over) (near (k .before .before)) (k .before .if2 .left) (over-some k))
 
-is-negative-requires : tie.Need-is-negative-requires
-is-negative-requires c κs = search needs
-
 sign : (c : tie.After-is-negative) → c .is-negative .result ≡ ltZ (s (c .before) .args .z) (pos 0)
 sign c = rw (toZ-ofZ (s (c .before) .fits .z)) at (c .is-negative .ensures)
-
-debit-requires : tie.Need-debit-requires
-debit-requires c κs = search needs
-
-credit-requires : tie.Need-credit-requires
-credit-requires c κs = search needs
 
 returns-4 : tie.Need-returns-4
 returns-4 c =
@@ -129,18 +105,5 @@ returns-5 c =
 pub scaled-spec : {M : Type 1} → statement M
 scaled-spec =
     tie.close
-    (tie.spec
-    within-requires
-    returns
-    returns-2
-    returns-3
-    magnitude-requires
-    mul-n
-    div-rounded
-    rem-rounded
-    rounded-requires
-    is-negative-requires
-    debit-requires
-    credit-requires
-    returns-4
-    returns-5)
+    (tie.spec (search needs) returns returns-2 returns-3 (search needs) mul-n (search needs) (search needs) (search needs) (search needs)
+    (search needs) (search needs) returns-4 returns-5)

@@ -7,9 +7,6 @@ use Rattle.money.specs.Rounding.{upOf}
 use Rattle.money.proofs.rounding.up.Statement.{statement}
 use Rattle.money.proofs.rounding.up.Tie as tie
 
-mul-if1 : tie.Need-mul-if1
-mul-if1 c = search needs
-
 returns : tie.Need-returns
 unfolding upOf
 returns c = let a = c .before .args in simp (le-leb (a .d) (2 * a .rest) (omega arith))
@@ -19,4 +16,4 @@ unfolding upOf
 returns-2 c = let a = c .before .args in simp (lt-leb (a .d) (2 * a .rest) (omega arith))
 
 pub up-spec : {M : Type 1} → statement M
-up-spec = tie.close (tie.spec mul-if1 returns returns-2)
+up-spec = tie.close (tie.spec (search needs) returns returns-2)

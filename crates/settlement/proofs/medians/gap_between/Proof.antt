@@ -29,35 +29,11 @@ one-row : (b : Bool) (n : ℕ) → cond b n 0 ≡ cond (eqb (cond (not b) 12 0) 
 one-row true n = refl
 one-row false n = refl
 
-good-period-requires : tie.Need-good-period-requires
-good-period-requires c κs = search needs
-
 returns : tie.Need-returns
 returns c = simp (bad-earlier c) search needs
 
-good-period-requires-2 : tie.Need-good-period-requires-2
-good-period-requires-2 c κs = search needs
-
 returns-2 : tie.Need-returns-2
 returns-2 c = simp (good-earlier (c .before .before), bad-later c) search needs
-
-cast-e : tie.Need-cast-e
-cast-e c = search needs
-
-cast-e-2 : tie.Need-cast-e-2
-cast-e-2 c = search needs
-
-add-e : tie.Need-add-e
-add-e c = search needs
-
-cast-l : tie.Need-cast-l
-cast-l c = search needs
-
-cast-l-2 : tie.Need-cast-l-2
-cast-l-2 c = search needs
-
-add-l : tie.Need-add-l
-add-l c = search needs
 
 gap-of-sums-requires : tie.Need-gap-of-sums-requires
 gap-of-sums-requires c κs =
@@ -75,16 +51,5 @@ returns-3 c =
 pub gap-between-spec : {M : Type 1} → statement M
 gap-between-spec =
     tie.close
-    (tie.spec
-    good-period-requires
-    returns
-    good-period-requires-2
-    returns-2
-    cast-e
-    cast-e-2
-    add-e
-    cast-l
-    cast-l-2
-    add-l
-    gap-of-sums-requires
-    returns-3)
+    (tie.spec (search needs) returns (search needs) returns-2 (search needs) (search needs) (search needs) (search needs) (search needs)
+    (search needs) gap-of-sums-requires returns-3)

@@ -5,15 +5,6 @@ use Rattle.settlement.proofs.Gaps.{gap-is, gap-early, allowed, too-long
 use Rattle.settlement.proofs.medians.gap_of_sums.Statement.{statement}
 use Rattle.settlement.proofs.medians.gap_of_sums.Tie as tie
 
-mul-end : tie.Need-mul-end
-mul-end c = search needs
-
-add-end : tie.Need-add-end
-add-end c = search needs
-
-mul-start : tie.Need-mul-start
-mul-start c = search needs
-
 returns : tie.Need-returns
 returns c = simp (gap-early (c .before .args .earlier) (c .before .args .later) (omega arith)) search needs
 
@@ -22,13 +13,10 @@ returns-2 c =
     let start = c .before .before in
     simp (gap-is (start .args .earlier) (start .args .later) (omega arith), too-long _ (c .if2 .taken)) search needs
 
-cast-hundredths : tie.Need-cast-hundredths
-cast-hundredths c = search needs
-
 returns-3 : tie.Need-returns-3
 returns-3 c =
     let start = c .before .before in
     simp (gap-is (start .args .earlier) (start .args .later) (omega arith), allowed _ (c .if2 .left)) search needs
 
 pub gap-of-sums-spec : {M : Type 1} → statement M
-gap-of-sums-spec = tie.close (tie.spec mul-end add-end mul-start returns returns-2 cast-hundredths returns-3)
+gap-of-sums-spec = tie.close (tie.spec (search needs) (search needs) (search needs) returns returns-2 (search needs) returns-3)

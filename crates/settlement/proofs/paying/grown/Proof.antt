@@ -22,26 +22,11 @@ cut-is : (c : tie.After-entry)
     → c .before .magnitude .result * c .entry .result / 1000000000 ≡ natAbs (c .before .before .args .amount) * growthOf (c .before .before .args .n) / 1000000000
 cut-is c = rw (magnitude-is (c .before), c .entry .ensures .0)
 
-magnitude-requires : tie.Need-magnitude-requires
-magnitude-requires c κs = search needs
-
-entry-requires : tie.Need-entry-requires
-entry-requires c κs = search needs
-
 mul-m : tie.Need-mul-m
 mul-m c =
     let h : c .before .magnitude .result ≤ 10000000000 = rw (magnitude-is (c .before)) (c .before .before .pre .0) in
     let l = product (c .before .magnitude .result) (c .entry .result) h (c .entry .ensures .1) in
     record { fits = omega arith }
-
-is-negative-requires : tie.Need-is-negative-requires
-is-negative-requires c κs = search needs
-
-debit-requires : tie.Need-debit-requires
-debit-requires c κs = search needs
-
-credit-requires : tie.Need-credit-requires
-credit-requires c κs = search needs
 
 returns : tie.Need-returns
 returns c =
@@ -68,12 +53,4 @@ returns-2 c =
 pub grown-spec : {M : Type 1} → statement M
 grown-spec =
     tie.close
-    (tie.spec
-    magnitude-requires
-    entry-requires
-    mul-m
-    is-negative-requires
-    debit-requires
-    credit-requires
-    returns
-    returns-2)
+    (tie.spec (search needs) (search needs) mul-m (search needs) (search needs) (search needs) returns returns-2)

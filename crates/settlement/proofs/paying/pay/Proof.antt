@@ -12,9 +12,6 @@ use Rattle.settlement.specs.Growth.{paidOf}
 use Rattle.settlement.proofs.paying.pay.Statement.{statement}
 use Rattle.settlement.proofs.paying.pay.Tie as tie
 
-within-requires : tie.Need-within-requires
-within-requires c κs = search needs
-
 returns : tie.Need-returns
 returns c = simp (le-ltb (c .before .before .args .n) 500 (omega arith)) search needs
 
@@ -43,4 +40,4 @@ returns-3 c =
     simp (lt-ltb (start .args .n) 500 (omega arith), small (c .before)) (refl, paid)
 
 pub pay-spec : {M : Type 1} → statement M
-pay-spec = tie.close (tie.spec within-requires returns returns-2 grown-requires returns-3)
+pay-spec = tie.close (tie.spec (search needs) returns returns-2 grown-requires returns-3)

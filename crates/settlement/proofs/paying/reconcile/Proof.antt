@@ -20,12 +20,6 @@ difference c =
     ∙ c .minus .ensures
     ∙ rw (toZ-ofZ (c .before .fits .last), toZ-ofZ (c .before .fits .provisional))
 
-minus-requires : tie.Need-minus-requires
-minus-requires c κs = search needs
-
-settle-requires : tie.Need-settle-requires
-settle-requires c κs = search needs
-
 returns : tie.Need-returns
 returns c =
     let start = c .before .before in
@@ -37,4 +31,4 @@ returns c =
     )
 
 pub reconcile-spec : {M : Type 1} → statement M
-reconcile-spec = tie.close (tie.spec minus-requires settle-requires returns)
+reconcile-spec = tie.close (tie.spec (search needs) (search needs) returns)

@@ -16,18 +16,6 @@ told c =
     gap-told (at .gap-between .result) (at .before .args .measured) (at .before .args .settled) (c .apart .given .0 .0) (c .apart .given .1)
     (at .gap-between .ensures .0) (at .gap-between .ensures .1)
 
-gap-between-requires : tie.Need-gap-between-requires
-gap-between-requires c κs = search needs
-
-enum-known-apart : tie.Need-enum-known-apart
-enum-known-apart c = search needs
-
-pay-requires : tie.Need-pay-requires
-pay-requires c κs = search needs
-
-enum-known-apart-2 : tie.Need-enum-known-apart-2
-enum-known-apart-2 c = search needs
-
 returns : tie.Need-returns
 returns c =
     let start = c .before .before .before .before .before in
@@ -49,10 +37,4 @@ returns-2 c =
 pub settle-spec : {M : Type 1} → statement M
 settle-spec =
     tie.close
-    (tie.spec
-    gap-between-requires
-    enum-known-apart
-    pay-requires
-    enum-known-apart-2
-    returns
-    returns-2)
+    (tie.spec (search needs) (search needs) (search needs) (search needs) returns returns-2)

@@ -39,12 +39,6 @@ says n e t =
 all : (xs : List ℕ) → T (every right 0 xs) → (n : ℕ) → n < length xs → getD xs n 0 ≡ growthOf n
 all xs t n h = says n (getD xs n 0) (at right xs t n h)
 
-mul-result : tie.Need-mul-result
-mul-result c = search needs
-
-array-read-result : tie.Need-array-read-result
-array-read-result c = search needs
-
 returns : tie.Need-returns
 unfolding right growsTo
 returns c =
@@ -52,4 +46,4 @@ returns c =
     (e, subst (λ (x : ℕ). x < 1300000000) (sym e) (growth-small (c .args .n) (c .pre)))
 
 pub entry-spec : {M : Type 1} → statement M
-entry-spec = tie.close (tie.spec mul-result array-read-result returns)
+entry-spec = tie.close (tie.spec (search needs) (search needs) returns)

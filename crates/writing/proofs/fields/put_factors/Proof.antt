@@ -22,25 +22,10 @@ room c =
     let f : ℕ × ℕ = (s .args .pyc, s .args .pyf) in
     omega (arith, s .pre, some-size (fieldOf 5 (factorsValue (s .args .year)) f) (written c))
 
-are-left-out-requires : tie.Need-are-left-out-requires
-are-left-out-requires c κs = search needs
-
 returns : tie.Need-returns
 returns c =
     let s = c .before .before .before in
     left-out _ (s .args .out .now) (s .args .at) (sym (c .before .are-left-out .ensures) ∙ c .if1 .taken)
-
-put-head-requires : tie.Need-put-head-requires
-put-head-requires c κs = search needs
-
-put-requires : tie.Need-put-requires
-put-requires c κs = search needs
-
-put-requires-2 : tie.Need-put-requires-2
-put-requires-2 c κs = search needs
-
-same-length : tie.Need-same-length
-same-length c = search needs
 
 returns-2 : tie.Need-returns-2
 returns-2 c =
@@ -54,11 +39,4 @@ returns-2 c =
 pub put-factors-spec : {M : Type 1} → statement M
 put-factors-spec =
     tie.close
-    (tie.spec
-    are-left-out-requires
-    returns
-    put-head-requires
-    put-requires
-    put-requires-2
-    same-length
-    returns-2)
+    (tie.spec (search needs) returns (search needs) (search needs) (search needs) (search needs) returns-2)

@@ -3,12 +3,6 @@ use Rattle.writing.proofs.Laying.{mark-left, mark-laid}
 use Rattle.writing.proofs.fields.put_mark.Statement.{statement}
 use Rattle.writing.proofs.fields.put_mark.Tie as tie
 
-put-number-requires : tie.Need-put-number-requires
-put-number-requires c κs = search needs
-
-same-length : tie.Need-same-length
-same-length c = search needs
-
 returns : tie.Need-returns
 returns c =
     let p = c .before .before in
@@ -21,4 +15,4 @@ returns-2 c =
     mark-left (s .args .out .now) (s .args .at) (c .if1 .left)
 
 pub put-mark-spec : {M : Type 1} → statement M
-put-mark-spec = tie.close (tie.spec put-number-requires same-length returns returns-2)
+put-mark-spec = tie.close (tie.spec (search needs) (search needs) returns returns-2)

@@ -26,22 +26,10 @@ size c = c .magnitude .ensures ∙ ap natAbs (back (c .before .before))
 written : (c : tie.Else1) → isNone (c .before .before .before .args .paid) ≡ false
 written c = ne-eqb _ _ (λ e. c .if1 .left (size (c .before) ∙ e))
 
-magnitude-requires : tie.Need-magnitude-requires
-magnitude-requires c κs = search needs
-
 returns : tie.Need-returns
 returns c =
     let s = c .before .before .before in
     left-out _ (s .args .out .now) (s .args .at) (eq-eqb _ _ (sym (size (c .before)) ∙ c .if1 .taken))
-
-unsigned-requires : tie.Need-unsigned-requires
-unsigned-requires c κs = search needs
-
-put-number-requires : tie.Need-put-number-requires
-put-number-requires c κs = search needs
-
-same-length : tie.Need-same-length
-same-length c = search needs
 
 returns-2 : tie.Need-returns-2
 returns-2 c =
@@ -56,10 +44,4 @@ returns-2 c =
 pub put-within-spec : {M : Type 1} → statement M
 put-within-spec =
     tie.close
-    (tie.spec
-    magnitude-requires
-    returns
-    unsigned-requires
-    put-number-requires
-    same-length
-    returns-2)
+    (tie.spec (search needs) returns (search needs) (search needs) (search needs) returns-2)

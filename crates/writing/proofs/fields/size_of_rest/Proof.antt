@@ -44,17 +44,8 @@ second c =
 magnitude : (c : tie.After-magnitude) → c .magnitude .result ≡ natAbs (c .before .before .before .before .args .paid)
 magnitude c = let s = c .before .before .before .before in c .magnitude .ensures ∙ ap natAbs (toZ-ofZ w64 (s .args .paid) (s .fits .paid))
 
-are-left-out-requires : tie.Need-are-left-out-requires
-are-left-out-requires c κs = search needs
-
-add-n : tie.Need-add-n
-add-n c = search needs
-
 add-n-2 : tie.Need-add-n-2
 add-n-2 c = omega (arith, first (c .before .before) .1)
-
-magnitude-requires : tie.Need-magnitude-requires
-magnitude-requires c κs = search needs
 
 add-n-3 : tie.Need-add-n-3
 add-n-3 c = omega (arith, second (c .before .before .before) .1)
@@ -78,4 +69,4 @@ returns-2 c =
 pub size-of-rest-spec : {M : Type 1} → statement M
 size-of-rest-spec =
     tie.close
-    (tie.spec are-left-out-requires add-n add-n-2 magnitude-requires add-n-3 returns returns-2)
+    (tie.spec (search needs) (search needs) add-n-2 (search needs) add-n-3 returns returns-2)

@@ -19,20 +19,11 @@ lined : (c : tie.After-good-lines) → goodLines (c .before .before .before .bef
 lined c = sym (c .good-lines .ensures)
 
 -- ---- the needs
-good-factors-requires : tie.Need-good-factors-requires
-good-factors-requires c κs = search needs
-
 returns : tie.Need-returns
 returns c = search (needs, factors (c .before) ∙ not-true _ (c .if1 .taken))
 
-within-requires : tie.Need-within-requires
-within-requires c κs = search needs
-
 returns-2 : tie.Need-returns-2
 returns-2 c = search (needs, factors (c .before .before .before .before) ∙ not-false _ (c .before .before .before .if1 .left), paid (c .before) ∙ not-true _ (c .if2 .taken))
-
-good-lines-requires : tie.Need-good-lines-requires
-good-lines-requires c κs = search needs
 
 returns-3 : tie.Need-returns-3
 returns-3 c =
@@ -45,11 +36,4 @@ returns-4 c =
 pub check-year-spec : {M : Type 1} → statement M
 check-year-spec =
     tie.close
-    (tie.spec
-    good-factors-requires
-    returns
-    within-requires
-    returns-2
-    good-lines-requires
-    returns-3
-    returns-4)
+    (tie.spec (search needs) returns (search needs) returns-2 (search needs) returns-3 returns-4)

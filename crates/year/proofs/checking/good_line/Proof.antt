@@ -25,18 +25,6 @@ signed c =
     let a = c .before .before .before .before .before .before .before .before .before in
     nonNeg-is (a .before .args .l .amount) ∙ ap not (sym (c .is-negative .ensures ∙ ap (λ (z : ℤ). ltZ z (pos 0)) (amount a)))
 
-returns : tie.Need-returns
-returns c = search facts
-
-returns-2 : tie.Need-returns-2
-returns-2 c = search facts
-
-returns-3 : tie.Need-returns-3
-returns-3 c = search facts
-
-within-requires : tie.Need-within-requires
-within-requires c κs = search needs
-
 returns-4 : tie.Need-returns-4
 returns-4 c = search (facts, small (c .before) ∙ not-true _ (c .if4 .taken))
 
@@ -47,9 +35,6 @@ returns-6 : tie.Need-returns-6
 returns-6 c =
     search (facts, c .before .if5 .left, small (c .before .before .before) ∙ not-false _ (c .before .before .if4 .left))
 
-is-negative-requires : tie.Need-is-negative-requires
-is-negative-requires c κs = search needs
-
 returns-7 : tie.Need-returns-7
 returns-7 c =
     search (facts, c .before .before .if5 .left, small (c .before .before .before .before) ∙ not-false _ (c .before .before .before .if4 .left), signed c)
@@ -57,4 +42,4 @@ returns-7 c =
 pub good-line-spec : {M : Type 1} → statement M
 good-line-spec =
     tie.close
-    (tie.spec returns returns-2 returns-3 within-requires returns-4 returns-5 returns-6 is-negative-requires returns-7)
+    (tie.spec (λ c. search facts) (λ c. search facts) (λ c. search facts) (search needs) returns-4 returns-5 returns-6 (search needs) returns-7)

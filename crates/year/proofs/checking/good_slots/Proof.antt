@@ -11,9 +11,6 @@ use Rattle.year.specs.Year.{goodLine, isZeroLine}
 use Rattle.year.proofs.Slots.{slotsGood, slots-start, slots-good, slots-bad}
 use Rattle.year.proofs.checking.good_slots.Statement.{statement}
 use Rattle.year.proofs.checking.good_slots.Tie as tie
-use Rattle.year.proofs.checking.good_slots.Reads as reads
-use Rattle.year.proofs.checking.good_slots.Lts as lts
-use Rattle.year.proofs.checking.good_slot.Reads as good-slot-reads
 
 -- the slots to come decide
 abbrev Inv-loop : tie.InvT-loop
@@ -29,27 +26,12 @@ len c = search (needs, held)
 loop-holds : tie.Need-loop-holds Inv-loop μ-loop
 loop-holds c = (omega arith, slots-start (c .args .count) (c .args .t1))
 
-mul-l : tie.Need-mul-l Inv-loop μ-loop
-mul-l c = search needs
-
-array-copy-out-l : tie.Need-array-copy-out-l Inv-loop μ-loop
-array-copy-out-l c = search needs
-
-good-slot-requires : tie.Need-good-slot-requires Inv-loop μ-loop
-good-slot-requires c κs = search needs
-
 returns : tie.Need-returns Inv-loop μ-loop
 returns c =
     let a = c .before .before .before .before in
     let s = a .before .args in
     let h : a .loop .k < length (s .t1) = omega (arith, len (a .before)) in
     sym (a .loop .inv .1 ∙ slots-bad (a .loop .k) (s .count) (s .t1) h (sym (c .before .good-slot .ensures) ∙ not-true _ (c .if1 .taken)))
-
-add-k : tie.Need-add-k Inv-loop μ-loop
-add-k c = search needs
-
-loop-less : tie.Need-loop-less Inv-loop μ-loop
-loop-less c = search needs
 
 loop-again : tie.Need-loop-again Inv-loop μ-loop
 loop-again c =
@@ -67,15 +49,4 @@ returns-2 c =
 pub good-slots-spec : {M : Type 1} → statement M
 good-slots-spec =
     tie.close
-    (tie.spec
-    Inv-loop
-    μ-loop
-    loop-holds
-    mul-l
-    array-copy-out-l
-    good-slot-requires
-    returns
-    add-k
-    loop-less
-    loop-again
-    returns-2)
+    (tie.spec Inv-loop μ-loop loop-holds (search needs) (search needs) (search needs) returns (search needs) (λ c. search needs) loop-again returns-2)

@@ -4,15 +4,6 @@ use Rattle.money.proofs.Pounds.{wire}
 use Rattle.year.proofs.checking.is_zero_line.Statement.{statement}
 use Rattle.year.proofs.checking.is_zero_line.Tie as tie
 
-returns : tie.Need-returns
-returns c = search facts
-
-returns-2 : tie.Need-returns-2
-returns-2 c = search facts
-
-magnitude-requires : tie.Need-magnitude-requires
-magnitude-requires c κs = search facts
-
 returns-3 : tie.Need-returns-3
 returns-3 c =
     rw (
@@ -23,4 +14,4 @@ returns-3 c =
     )
 
 pub is-zero-line-spec : {M : Type 1} → statement M
-is-zero-line-spec = tie.close (tie.spec returns returns-2 magnitude-requires returns-3)
+is-zero-line-spec = tie.close (tie.spec (λ c. search facts) (λ c. search facts) (λ c κs. search facts) returns-3)
