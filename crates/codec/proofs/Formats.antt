@@ -2,18 +2,15 @@
 -- lie from `lo` on and below `hi`, and what follows it starts with none below `hi`. Assumes nothing.
 use mathlib.Core.Path.{_≡_, refl, sym, ap, subst, _∙_}
 use mathlib.Core.Bool.{Bool, true, false, _&&_, _||_}
-use mathlib.Core.List.{List, [], _∷_, _++_, append-assoc, append-nil}
+use mathlib.Core.List.{List, _++_, append-assoc}
 use mathlib.Core.Option.{Option, some, none}
-use Prim.Native.Nat.{ℕ, zero, suc, _+_, _-_, _≤_}
+use Prim.Native.Nat.{ℕ, suc}
 use native.Mathlib.Omega.{arith}
-use lib.ListN.{length, drop}
-use lib.Dec.{leb}
-use lib.Seq.{append-snoc}
-use borrow.Author.Tests.{le-leb, leb-true}
+use lib.ListN.{drop}
 use Rattle.lists.proofs.Tests.{and-left, and-right}
 use Rattle.codec.specs.Numbers.{Bytes}
-use Rattle.codec.specs.Format.{Item, Res, got, stuck, Codec, need, one, orElse, unless, opt, more, scan, texts, allFine, many, pairUp, andThen, both}
-use Rattle.codec.proofs.Values.{bytes-drop, bytes-right}
+use Rattle.codec.specs.Format.{Item, Res, got, stuck, Codec, need, one, orElse, unless, opt, pairUp, andThen, both}
+use Rattle.codec.proofs.Values.{bytes-right}
 use Rattle.codec.proofs.Items.{Over, over-le, ItemLaws}
 
 pub record Lawful {A : Type 0} (c : Codec A) (lo hi : ℕ) : Type 0 where
@@ -98,74 +95,4 @@ module _ {A B : Type 0} (c : Codec A) (d : A → Codec B) (lo mid hi : ℕ) (lc 
         there = λ p rest h o. both-there (p .0) (p .1) rest h o;
         over = λ p rest h o. both-over (p .0) (p .1) rest h o;
         back = λ bs p rest b h. and-back bs b (c .read bs) refl p rest h;
-      }
-
-module _ {A : Type 0} (f : List A → Item A) (t u : ℕ) (l : (before : List A) → ItemLaws (f before)) (same : (before : List A) → f before .tag ≡ t) (same-last : (before : List A) → f before .last ≡ u) where
-  past : (before : List A) (rest : List ℕ) → Over (suc u) rest → f before .look rest ≡ none
-  past before rest o = l before .other rest (subst (λ (k : ℕ). Over (suc k) rest) (sym (same-last before)) o)
-
-  scan-there : (n : ℕ) (before ys : List A) (rest : List ℕ) → length ys ≤ n → allFine f before ys ≡ true → Over (suc u) rest → scan f n before (texts f before ys ++ rest) ≡ got (before ++ ys) rest
-  unfolding scan texts allFine
-  scan-there zero before [] rest h a o = rw (append-nil before)
-  scan-there (suc n) before [] rest h a o = rw (past before rest o, append-nil before)
-  scan-there zero before (x ∷ ys) rest h a o = absurd (omega arith)
-  scan-there (suc n) before (x ∷ ys) rest h a o =
-      let hx : f before .fine x ≡ true = and-left (f before .fine x) (allFine f (before ++ (x ∷ [])) ys) a in
-      let hy : allFine f (before ++ (x ∷ [])) ys ≡ true = and-right (f before .fine x) (allFine f (before ++ (x ∷ [])) ys) a in
-      let r = texts f (before ++ (x ∷ [])) ys ++ rest in
-      rw (append-assoc (f before .text x) (texts f (before ++ (x ∷ [])) ys) rest, l before .there x r hx, l before .after x r hx, scan-there n (before ++ (x ∷ [])) ys rest (omega arith) hy o, append-snoc before x ys)
-
-  fields-over : (before ys : List A) (rest : List ℕ) → Over (suc u) rest → Over t (texts f before ys ++ rest)
-  unfolding texts
-  fields-over before [] rest o = over-le (omega (arith, l before .tags, same before, same-last before)) rest o
-  fields-over before (x ∷ ys) rest o =
-      rw (append-assoc (f before .text x) (texts f (before ++ (x ∷ [])) ys) rest)
-      (subst (λ (k : ℕ). Over k (f before .text x ++ (texts f (before ++ (x ∷ [])) ys ++ rest))) (same before) (l before .over x (texts f (before ++ (x ∷ [])) ys ++ rest)))
-
-  -- what a scan adds to what was read before
-  pub record Added (n : ℕ) (before : List A) (bs : List ℕ) (all : List A) (rest : List ℕ) : Type 0 where
-    pub new : List A
-    pub all-is : all ≡ before ++ new
-    pub few : length new ≤ n
-    pub fine : allFine f before new ≡ true
-    pub is : bs ≡ texts f before new ++ rest
-
-  none-added : (n : ℕ) (before : List A) (bs : List ℕ) (all : List A) (rest : List ℕ) → got before bs ≡ got all rest → Added n before bs all rest
-  unfolding texts allFine
-  none-added n before bs all rest h =
-      let p : before ≡ all = cc in
-      let q : bs ≡ rest = cc in
-      record { new = []; all-is = sym p ∙ sym (append-nil before); few = omega arith; fine = refl; is = q }
-
-  step-back : (n : ℕ) (before : List A) (bs : List ℕ) (all : List A) (rest : List ℕ) → Bytes bs
-      → ((x : A) → scan f n (before ++ (x ∷ [])) (drop (f before .size x) bs) ≡ got all rest → Added n (before ++ (x ∷ [])) (drop (f before .size x) bs) all rest)
-      → (o : Option A) → f before .look bs ≡ o → more before bs (λ a. scan f n (before ++ (a ∷ [])) (drop (f before .size a) bs)) o ≡ got all rest → Added (suc n) before bs all rest
-  unfolding texts allFine
-  step-back n before bs all rest b ih none e h = none-added (suc n) before bs all rest h
-  step-back n before bs all rest b ih (some x) e h =
-      let i = ih x h in
-      let k = l before .back bs x b e in
-      record {
-        new = x ∷ i .new;
-        all-is = i .all-is ∙ append-snoc before x (i .new);
-        few = omega (arith, i .few);
-        fine = rw (k .1) (i .fine);
-        is = k .0 ∙ ap (λ (m : List ℕ). f before .text x ++ m) (i .is) ∙ sym (append-assoc (f before .text x) (texts f (before ++ (x ∷ [])) (i .new)) rest);
-      }
-
-  scan-back : (n : ℕ) (before : List A) (bs : List ℕ) (all : List A) (rest : List ℕ) → Bytes bs → scan f n before bs ≡ got all rest → Added n before bs all rest
-  unfolding scan
-  scan-back zero before bs all rest b h = none-added zero before bs all rest h
-  scan-back (suc n) before bs all rest b h =
-      step-back n before bs all rest b (λ x k. scan-back n (before ++ (x ∷ [])) (drop (f before .size x) bs) all rest (bytes-drop (f before .size x) bs b) k) (f before .look bs) refl h
-
-  many-back : (n : ℕ) (bs : List ℕ) (all : List A) (rest : List ℕ) → Added n [] bs all rest → (bs ≡ texts f [] all ++ rest) × ((leb (length all) n && allFine f [] all) ≡ true)
-  many-back n bs all rest a = rw (a .all-is, le-leb (length (a .new)) n (a .few)) (a .is, a .fine)
-
-  pub many-lawful : (n : ℕ) → Lawful (many f n) t (suc u)
-  many-lawful n =
-      record {
-        there = λ a rest h o. scan-there n [] a rest (leb-true _ _ (and-left (leb (length a) n) (allFine f [] a) h)) (and-right (leb (length a) n) (allFine f [] a) h) o;
-        over = λ a rest h o. fields-over [] a rest o;
-        back = λ bs a rest b h. many-back n bs a rest (scan-back n [] bs a rest b h);
       }

@@ -4,16 +4,15 @@ use mathlib.Core.Path.{_≡_, refl, sym, ap, subst, _∙_}
 use mathlib.Core.Bool.{Bool, true}
 use mathlib.Core.List.{List, [], _∷_, _++_, append-assoc, append-cancel-right}
 use mathlib.Core.Option.{Option, some, none}
-use Prim.Native.Nat.{ℕ, zero, suc}
+use Prim.Native.Nat.{ℕ}
 use native.Mathlib.Omega.{arith}
 use lib.ListN.{length, take, drop, take-append-drop}
 use lib.Seq.{drop-at, length-take-le}
-use borrow.Author.Tests.{le-leb}
 use Rattle.lists.specs.Lists.{all}
 use Rattle.lists.proofs.Tests.{and-left, and-right, and-made}
 use Rattle.codec.specs.Numbers.{Bytes}
 use Rattle.codec.specs.Fields.{isWhole, joined}
-use Rattle.codec.specs.Format.{Item, Res, got, stuck, Codec, malformed, need, one, orElse, opt, more, scan, allFine, many, pairUp, andThen, both}
+use Rattle.codec.specs.Format.{Item, Res, got, stuck, Codec, malformed, need, one, orElse, opt, pairUp, andThen, both}
 use Rattle.codec.proofs.Values.{bytes-right}
 use Rattle.codec.proofs.Items.{ItemLaws}
 use Rattle.codec.proofs.Formats.{Lawful}
@@ -186,65 +185,6 @@ module _ {A : Type 0} (f : Item A) (l : ItemLaws f) where
 
     pub opt-numbered : (is : A → Bool) {k : ℕ} → Numbered (opt f d is) k
     opt-numbered is = record { only = λ bs why rest h. absurd (else-got bs (f .look bs) why rest h) }
-
--- ---- many fields
--- up to n more, after a was found
-abbrev onward : {A : Type 0} → (List A → Item A) → ℕ → List A → List ℕ → A → Res (List A)
-onward f n before bs a = scan f n (before ++ (a ∷ [])) (drop (f before .size a) bs)
-
-module _ {A : Type 0} (f : List A → Item A) (l : (before : List A) → ItemLaws (f before)) where
-  step-fields : (n : ℕ) (before : List A) (bs : List ℕ) → ((a : A) → Whole (drop (f before .size a) bs) (restOf (onward f n before bs a)))
-      → (o : Option A) → f before .look bs ≡ o → Whole bs (restOf (more before bs (onward f n before bs) o))
-  step-fields n before bs ih none e = no-field bs
-  step-fields n before bs ih (some a) e = found-more (f before) (l before) bs (restOf (onward f n before bs a)) a e (ih a)
-
-  scan-fields : (n : ℕ) (before : List A) (bs : List ℕ) → Whole bs (restOf (scan f n before bs))
-  unfolding scan
-  scan-fields zero before bs = no-field bs
-  scan-fields (suc n) before bs = step-fields n before bs (λ a. scan-fields n (before ++ (a ∷ [])) (drop (f before .size a) bs)) (f before .look bs) refl
-
-  step-alike : (n : ℕ) (before : List A) (w r q : List ℕ) → SameField r q
-      → ((a : A) (u : List ℕ) → restOf (scan f n (before ++ (a ∷ [])) (u ++ r)) ≡ r → scan f n (before ++ (a ∷ [])) (u ++ q) ≡ moved (scan f n (before ++ (a ∷ [])) (u ++ r)) q)
-      → (o : Option A) → f before .look (w ++ r) ≡ o → restOf (more before (w ++ r) (onward f n before (w ++ r)) o) ≡ r
-      → more before (w ++ q) (onward f n before (w ++ q)) (f before .look (w ++ q)) ≡ moved (more before (w ++ r) (onward f n before (w ++ r)) o) q
-  step-alike n before w r q s ih none e h = let k = none-alike (f before) (l before) w r q s e h in rw (k .0) (ap (got before) (k .1))
-  step-alike n before w r q s ih (some a) e h =
-      let m = drop (f before .size a) (w ++ r) in
-      let x = scan-fields n (before ++ (a ∷ [])) m in
-      let u = joined (x .fields) in
-      let y : m ≡ u ++ r = x .is ∙ ap (λ (t : List ℕ). u ++ t) h in
-      let k = found-alike (f before) (l before) w r u a e y q in
-      rw (k .0) (ap (scan f n (before ++ (a ∷ []))) (k .1) ∙ alike-at (scan f n (before ++ (a ∷ []))) u r q m (ih a u) y h)
-
-  scan-alike : (n : ℕ) (before : List A) (w r q : List ℕ) → SameField r q → restOf (scan f n before (w ++ r)) ≡ r → scan f n before (w ++ q) ≡ moved (scan f n before (w ++ r)) q
-  unfolding scan
-  scan-alike zero before w r q s h = ap (λ (m : List ℕ). got before (m ++ q)) (append-cancel-right w [] r h)
-  scan-alike (suc n) before w r q s h = step-alike n before w r q s (λ a u. scan-alike n (before ++ (a ∷ [])) u r q s) (f before .look (w ++ r)) refl h
-
-  -- it is never stuck
-  step-got : (n : ℕ) (before : List A) (bs : List ℕ) (k : ℕ) (rest : List ℕ) → ((a : A) → onward f n before bs a ≡ stuck k rest → ⊥)
-      → (o : Option A) → more before bs (onward f n before bs) o ≡ stuck k rest → ⊥
-  step-got n before bs k rest ih none h = let z : _≡_ {A = ℕ} 0 1 = cc in omega arith
-  step-got n before bs k rest ih (some a) h = ih a h
-
-  scan-got : (n : ℕ) (before : List A) (bs : List ℕ) (k : ℕ) (rest : List ℕ) → scan f n before bs ≡ stuck k rest → ⊥
-  unfolding scan
-  scan-got zero before bs k rest h = let z : _≡_ {A = ℕ} 0 1 = cc in omega arith
-  scan-got (suc n) before bs k rest h = step-got n before bs k rest (λ a. scan-got n (before ++ (a ∷ [])) (drop (f before .size a) bs) k rest) (f before .look bs) h
-
-  pub many-placed : (n : ℕ) → Placed (many f n)
-  unfolding allFine
-  many-placed n =
-      record {
-        fields = scan-fields n [];
-        alike = scan-alike n [];
-        any = [];
-        any-ok = rw (le-leb 0 n (omega arith));
-        begun = λ bs k rest b h. absurd (scan-got n [] bs k rest h);
-      }
-
-  pub many-numbered : (n : ℕ) {k : ℕ} → Numbered (many f n) k
-  many-numbered n = record { only = λ bs why rest h. absurd (scan-got n [] bs why rest h) }
 
 -- ---- one after the other
 rest-pair : {A B : Type 0} (a : A) (x : Res B) → restOf (pairUp a x) ≡ restOf x

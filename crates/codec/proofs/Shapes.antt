@@ -14,10 +14,10 @@ use Rattle.codec.specs.Format.{Value, num, pair, such, beside, Item, fie
 use Rattle.codec.proofs.Values.{ValueLaws, num-laws, pair-laws, such-laws}
 use Rattle.codec.proofs.Items.{ItemLaws, tagged-laws}
 use Rattle.codec.proofs.Found.{such-passes}
-use Rattle.codec.proofs.Formats.{Lawful, one-lawful, opt-lawful, many-lawful, both-lawful}
-use Rattle.codec.proofs.Places.{Placed, Numbered, one-placed, opt-placed, many-placed, both-placed, one-numbered, opt-numbered, both-numbered}
+use Rattle.codec.proofs.Formats.{Lawful, one-lawful, opt-lawful, both-lawful}
+use Rattle.codec.proofs.Places.{Placed, Numbered, one-placed, opt-placed, both-placed, one-numbered, opt-numbered, both-numbered}
 use Rattle.codec.proofs.Either.{beside-laws, lengths-apart, tags-apart, either-laws, required-if-lawful, required-if-placed, required-if-numbered}
-use Rattle.codec.proofs.Every.{every-lawful, every-placed}
+use Rattle.codec.proofs.Every.{every-lawful, every-placed, many-lawful, many-placed}
 
 -- ---- a last byte that is left out where it is 1; what may stand can depend on those before it
 module _ {A : Type 0} (tag : ℕ) (v : Value A) (l : ValueLaws v) (short : v .len < 65000) (may : List (A × ℕ) → A × ℕ → Bool) where
@@ -44,7 +44,7 @@ module _ {A : Type 0} (tag : ℕ) (v : Value A) (l : ValueLaws v) (short : v .le
       (λ p rest h. lengths-apart tag (plain before) (caused before) (omega arith) (λ e. omega arith) p rest)
 
   pub two-lengths-lawful : (n : ℕ) → Lawful (many oneByte n) tag (suc tag)
-  two-lengths-lawful n = many-lawful oneByte tag tag one-byte-laws (λ before. refl) (λ before. refl) n
+  two-lengths-lawful n = many-lawful oneByte one-byte-laws n tag tag (λ before. refl) (λ before. refl)
 
   pub two-lengths-placed : (n : ℕ) → Placed (many oneByte n)
   two-lengths-placed n = many-placed oneByte one-byte-laws n

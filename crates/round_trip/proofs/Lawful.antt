@@ -15,8 +15,9 @@ use Rattle.year.specs.Year.{goodLine, lineSlots}
 use Rattle.codec.specs.Format.{num, int, pair, tagged, malformed}
 use Rattle.codec.proofs.Values.{ValueLaws, num-laws, int-laws, pair-laws, mapped-laws, such-laws}
 use Rattle.codec.proofs.Items.{ItemLaws, tagged-laws}
-use Rattle.codec.proofs.Formats.{Lawful, one-lawful, opt-lawful, many-lawful, both-lawful}
-use Rattle.codec.proofs.Places.{Placed, Numbered, one-placed, opt-placed, many-placed, both-placed, one-numbered, opt-numbered, many-numbered, both-numbered}
+use Rattle.codec.proofs.Formats.{Lawful, one-lawful, opt-lawful, both-lawful}
+use Rattle.codec.proofs.Places.{Placed, Numbered, one-placed, opt-placed, both-placed, one-numbered, opt-numbered, both-numbered}
+use Rattle.codec.proofs.Every.{many-lawful, many-placed, many-numbered}
 use Rattle.filing.specs.Form.{yearValue, pppiValue, rateValue, aicValue, leftOut, isLeftOut, factorsValue, toLine, fromLine, lineLayout, lineValue, toEntry, fromEntry, entryLayout, mayFollow, entryValue, markValue, isNone, withinValue, lineItem, entryItem, factors, mark, within, required, body, form}
 
 -- ---- values
@@ -112,8 +113,8 @@ required-lawful =
 body-lawful : (number : ℕ) → Lawful (body number) 5 10
 body-lawful number =
     both-lawful _ _ 5 6 10 (factors-lawful number) (λ f.
-    both-lawful _ _ 6 7 10 (many-lawful lineItem 6 6 line-item (λ before. refl) (λ before. refl) lineSlots) (λ l.
-    both-lawful _ _ 7 8 10 (many-lawful (entryItem number) 7 7 (entry-item number) (λ before. refl) (λ before. refl) slots) (λ o.
+    both-lawful _ _ 6 7 10 (many-lawful lineItem line-item lineSlots 6 6 (λ before. refl) (λ before. refl)) (λ l.
+    both-lawful _ _ 7 8 10 (many-lawful (entryItem number) (entry-item number) slots 7 7 (λ before. refl) (λ before. refl)) (λ o.
     both-lawful _ _ 8 9 10 mark-lawful (λ m.
     within-lawful))))
 
@@ -131,8 +132,8 @@ required-placed =
 body-placed : (number : ℕ) → Placed (body number)
 body-placed number =
     both-placed _ _ 5 6 (factors-lawful number) (opt-placed (tagged 5 (factorsValue number)) (factors-item number) (leftOut number) (isLeftOut number) refl) (λ f.
-    both-placed _ _ 6 7 (many-lawful lineItem 6 6 line-item (λ before. refl) (λ before. refl) lineSlots) (many-placed lineItem line-item lineSlots) (λ l.
-    both-placed _ _ 7 8 (many-lawful (entryItem number) 7 7 (entry-item number) (λ before. refl) (λ before. refl) slots) (many-placed (entryItem number) (entry-item number) slots) (λ o.
+    both-placed _ _ 6 7 (many-lawful lineItem line-item lineSlots 6 6 (λ before. refl) (λ before. refl)) (many-placed lineItem line-item lineSlots) (λ l.
+    both-placed _ _ 7 8 (many-lawful (entryItem number) (entry-item number) slots 7 7 (λ before. refl) (λ before. refl)) (many-placed (entryItem number) (entry-item number) slots) (λ o.
     both-placed _ _ 8 9 mark-lawful (opt-placed (tagged 8 markValue) mark-item 0 (λ n. eqb n 0) refl) (λ m.
     opt-placed (tagged 9 withinValue) within-item (pos 0) isNone refl))))
 
