@@ -38,26 +38,8 @@ len c = search (needs, held)
 fits : (c : tie.Start Inv-loop μ-loop) → c .args .n ≤ length (c .args .t2)
 fits c = omega (arith, len c, c .pre .0)
 
-no-amounts-requires : tie.Need-no-amounts-requires Inv-loop μ-loop
-no-amounts-requires c κs = search needs
-
 loop-holds : tie.Need-loop-holds Inv-loop μ-loop
 loop-holds c = (omega arith, c .no-amounts .ensures, refl)
-
-mul-y : tie.Need-mul-y Inv-loop μ-loop
-mul-y c = search needs
-
-array-copy-out-y : tie.Need-array-copy-out-y Inv-loop μ-loop
-array-copy-out-y c = search needs
-
-levels-of-requires : tie.Need-levels-of-requires Inv-loop μ-loop
-levels-of-requires c κs = search needs
-
-revenue-of-requires : tie.Need-revenue-of-requires Inv-loop μ-loop
-revenue-of-requires c κs = search needs
-
-row-of-requires : tie.Need-row-of-requires Inv-loop μ-loop
-row-of-requires c κs = search needs
 
 -- the year that is looked at, and its row
 abbrev this : tie.At-loop Inv-loop μ-loop → Year
@@ -74,9 +56,6 @@ row c =
     ∙ ap (rowFrom (p .before .levels-of .result) (p .revenue-of .result) (this a .pppi)) (wire (this a .within) (c .before .struct-told .given .1 .1 .1 .1 .1 .1 .1 .1 .1 .0 .1))
     ∙ row-is (s .args .book) (this a) (s .args .log) (s .pre .1) (s .pre .2) good (p .before .levels-of .result) (p .revenue-of .result) (p .before .levels-of .ensures) (p .revenue-of .ensures)
 
-no-amounts-requires-2 : tie.Need-no-amounts-requires-2 Inv-loop μ-loop
-no-amounts-requires-2 c κs = search needs
-
 returns : tie.Need-returns Inv-loop μ-loop
 returns c =
     let r = c .before .before .before in
@@ -86,15 +65,6 @@ returns c =
     let f = row-says (s .args .book) (s .args .t2) (s .args .log) (this a) (r .row-of .result) (row r) ∙ not-true _ (c .before .if1 .taken) in
     let n = a .loop .inv .2 ∙ fits-next (s .args .book) (s .args .t2) (s .args .log) (s .args .n) (fits s) (a .loop .k) noYear (i .loop-test .taken) f in
     (sym n, c .no-amounts2 .ensures ∙ ap (λ (b : Bool). cond b (yearlyOf (s .args .book) (s .args .t2) (s .args .log) (s .args .n)) noAmounts) (sym n))
-
-with-row-requires : tie.Need-with-row-requires Inv-loop μ-loop
-with-row-requires c κs = search needs
-
-add-k : tie.Need-add-k Inv-loop μ-loop
-add-k c = search needs
-
-loop-less : tie.Need-loop-less Inv-loop μ-loop
-loop-less c = search needs
 
 loop-again : tie.Need-loop-again Inv-loop μ-loop
 loop-again c =
@@ -130,17 +100,17 @@ amounts-of-spec =
     (tie.spec
     Inv-loop
     μ-loop
-    no-amounts-requires
+    (λ c κs. search needs)
     loop-holds
-    mul-y
-    array-copy-out-y
-    levels-of-requires
-    revenue-of-requires
-    row-of-requires
-    no-amounts-requires-2
+    (λ c. search needs)
+    (λ c. search needs)
+    (λ c κs. search needs)
+    (λ c κs. search needs)
+    (λ c κs. search needs)
+    (λ c κs. search needs)
     returns
-    with-row-requires
-    add-k
-    loop-less
+    (λ c κs. search needs)
+    (λ c. search needs)
+    (λ c. search needs)
     loop-again
     returns-2)

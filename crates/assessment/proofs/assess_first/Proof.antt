@@ -25,12 +25,6 @@ use Rattle.balances.proofs.assess_years.Reads as assess-years-reads
 use Rattle.balances.specs.Assessment.{YearsGives}
 use Rattle.levels.proofs.availability_of.Reads as availability-of-reads
 
-availability-of-requires : tie.Need-availability-of-requires
-availability-of-requires c κs = search needs
-
-enum-known-available : tie.Need-enum-known-available
-enum-known-available c = search needs
-
 returns : tie.Need-returns
 returns c =
     let e = c .before in
@@ -65,9 +59,6 @@ says c = count-says (c .args .n) (c .pre)
 fits : (c : tie.Start) → c .args .n ≤ length (c .args .years)
 fits c = omega (arith, len c, says c .room)
 
-enum-told : tie.Need-enum-told
-enum-told c = search needs
-
 good-years-requires : tie.Need-good-years-requires
 good-years-requires c κs = let k = says (c .before .before .before) in (k .some, k .room)
 
@@ -90,9 +81,6 @@ returns-3 c =
     let a = k .before .before .before .args in
     gives-too-large (a .book) (a .years) (a .log) (a .n) (book-good k) (log-good k) (years-good (m .before)) (sym (m .amounts-of .ensures .0) ∙ not-true _ (c .if2 .taken))
 
-assess-years-requires : tie.Need-assess-years-requires
-assess-years-requires c κs = search needs
-
 returns-4 : tie.Need-returns-4
 returns-4 c =
     let e = c .before .before in
@@ -111,13 +99,13 @@ pub assess-first-spec : {M : Type 1} → statement M
 assess-first-spec =
     tie.close
     (tie.spec
-    availability-of-requires
-    enum-known-available
+    (λ c κs. search needs)
+    (λ c. search needs)
     returns
-    enum-told
+    (λ c. search needs)
     good-years-requires
     returns-2
     amounts-of-requires
     returns-3
-    assess-years-requires
+    (λ c κs. search needs)
     returns-4)

@@ -36,18 +36,6 @@ fits c = omega (arith, len c, c .pre)
 loop-holds : tie.Need-loop-holds Inv-loop μ-loop
 loop-holds c = (omega arith, rest-start (c .args .number) (take (c .args .n) (c .args .t1)))
 
-mul-y : tie.Need-mul-y Inv-loop μ-loop
-mul-y c = search needs
-
-array-copy-out-y : tie.Need-array-copy-out-y Inv-loop μ-loop
-array-copy-out-y c = search needs
-
-check-year-requires : tie.Need-check-year-requires Inv-loop μ-loop
-check-year-requires c κs = search needs
-
-enum-told : tie.Need-enum-told Inv-loop μ-loop
-enum-told c = search needs
-
 returns : tie.Need-returns Inv-loop μ-loop
 returns c =
     let y = c .before .before in
@@ -57,15 +45,6 @@ returns c =
     sym (a .loop .inv .1
     ∙ rest-bad-year (s .number) (a .loop .k) (s .n) (s .t1) noYear (fits (a .before)) (omega arith)
     (checked-bad x (y .check-year .result) (y .check-year .ensures) (c .enum-told .given .0 .0) (c .enum-told .given .1)))
-
-enum-told-2 : tie.Need-enum-told-2 Inv-loop μ-loop
-enum-told-2 c = search needs
-
-cast-if1 : tie.Need-cast-if1 Inv-loop μ-loop
-cast-if1 c = search needs
-
-add-if1 : tie.Need-add-if1 Inv-loop μ-loop
-add-if1 c = search needs
 
 returns-2 : tie.Need-returns-2 Inv-loop μ-loop
 returns-2 c =
@@ -77,12 +56,6 @@ returns-2 c =
     sym (a .loop .inv .1
     ∙ rest-bad-number (s .number) (a .loop .k) (s .n) (s .t1) noYear (fits (a .before)) (omega arith)
     (checked-good x (y .check-year .result) (y .check-year .ensures) (t .enum-told2 .given .1)) (c .if1 .taken))
-
-add-k : tie.Need-add-k Inv-loop μ-loop
-add-k c = search needs
-
-loop-less : tie.Need-loop-less Inv-loop μ-loop
-loop-less c = search needs
 
 loop-again : tie.Need-loop-again Inv-loop μ-loop
 loop-again c =
@@ -111,16 +84,16 @@ good-from-spec =
     Inv-loop
     μ-loop
     loop-holds
-    mul-y
-    array-copy-out-y
-    check-year-requires
-    enum-told
+    (λ c. search needs)
+    (λ c. search needs)
+    (λ c κs. search needs)
+    (λ c. search needs)
     returns
-    enum-told-2
-    cast-if1
-    add-if1
+    (λ c. search needs)
+    (λ c. search needs)
+    (λ c. search needs)
     returns-2
-    add-k
-    loop-less
+    (λ c. search needs)
+    (λ c. search needs)
     loop-again
     returns-3)

@@ -6,30 +6,6 @@ use Rattle.assessment.proofs.row_of.Reads as reads
 use Rattle.assessment.proofs.row_of.Lts as lts
 use Rattle.assessment.proofs.no_row.Reads as no-row-reads
 
-enum-known-found : tie.Need-enum-known-found
-enum-known-found c = search needs
-
-enum-told : tie.Need-enum-told
-enum-told c = search needs
-
-no-row-requires : tie.Need-no-row-requires
-no-row-requires c κs = search needs
-
-returns : tie.Need-returns
-returns c = search needs
-
-enum-known-assessed : tie.Need-enum-known-assessed
-enum-known-assessed c = search needs
-
-enum-told-2 : tie.Need-enum-told-2
-enum-told-2 c = search needs
-
-no-row-requires-2 : tie.Need-no-row-requires-2
-no-row-requires-2 c κs = search needs
-
-returns-2 : tie.Need-returns-2
-returns-2 c = search needs
-
 returns-3 : tie.Need-returns-3
 returns-3 c =
     let e = c .before in
@@ -47,12 +23,12 @@ pub row-of-spec : {M : Type 1} → statement M
 row-of-spec =
     tie.close
     (tie.spec
-    enum-known-found
-    enum-told
-    no-row-requires
-    returns
-    enum-known-assessed
-    enum-told-2
-    no-row-requires-2
-    returns-2
+    (λ c. search needs)
+    (λ c. search needs)
+    (λ c κs. search needs)
+    (λ c. search needs)
+    (λ c. search needs)
+    (λ c. search needs)
+    (λ c κs. search needs)
+    (λ c. search needs)
     returns-3)

@@ -58,26 +58,8 @@ floor-fits : (c : tie.After-within2) → levelFits (c .before .before .before .f
 floor-fits c = let f = c .before .before .before in sym (c .within2 .ensures ∙ ap levelFits (wire (f .floor-of .result) (f .floor-of .ok)))
 
 -- ---- the needs
-year-minutes-requires : tie.Need-year-minutes-requires
-year-minutes-requires c κs = search needs
-
-first-minute-requires : tie.Need-first-minute-requires
-first-minute-requires c κs = search needs
-
-end-minute-requires : tie.Need-end-minute-requires
-end-minute-requires c κs = search needs
-
-lost-energy-requires : tie.Need-lost-energy-requires
-lost-energy-requires c κs = search needs
-
 measured-requires : tie.Need-measured-requires
 measured-requires c κs = lost-within (gave c)
-
-tested-requires : tie.Need-tested-requires
-tested-requires c κs = search needs
-
-enum-known-target : tie.Need-enum-known-target
-enum-known-target c = search needs
 
 returns : tie.Need-returns
 returns c =
@@ -86,19 +68,10 @@ returns c =
     gives-no-target (a .book) (a .y) (a .log) (c .before .target .given .0 .0)
     (subst (TargetGives (a .book) (a .log) (a .y .number)) (c .before .target .given .1) (target s))
 
-check-year-requires : tie.Need-check-year-requires
-check-year-requires c κs = search needs
-
-enum-known-answer : tie.Need-enum-known-answer
-enum-known-answer c = search needs
-
 returns-2 : tie.Need-returns-2
 returns-2 c =
     let d = c .before .before .before in
     gives-no-year (told (d .before)) (d .check-year .result) (c .before .answer .given .0 .0) (d .check-year .ensures) (c .before .answer .given .1)
-
-enum-told : tie.Need-enum-told
-enum-told c = search needs
 
 cap-of-requires : tie.Need-cap-of-requires
 cap-of-requires c κs =
@@ -106,9 +79,6 @@ cap-of-requires c κs =
     let y = start (k .before) .args .y in
     let s = year-says y (in-range c) in
     (good (told k), s .pyc, s .aic, pppi-most (y .pppi) (s .pppi))
-
-is-met-requires : tie.Need-is-met-requires
-is-met-requires c κs = search needs
 
 floor-of-requires : tie.Need-floor-of-requires
 floor-of-requires c κs =
@@ -118,16 +88,10 @@ floor-of-requires c κs =
     let s = year-says y (in-range e) in
     (good (told k), s .pyf, pppi-most (y .pppi) (s .pppi))
 
-within-requires : tie.Need-within-requires
-within-requires c κs = search needs
-
 returns-3 : tie.Need-returns-3
 returns-3 c =
     let e = c .before .before .before .before .before in
     gives-large-cap (told (e .before .before .before)) (in-range e) (fits (c .before) ∙ not-true _ (c .if1 .taken))
-
-within-requires-2 : tie.Need-within-requires-2
-within-requires-2 c κs = search needs
 
 returns-4 : tie.Need-returns-4
 returns-4 c =
@@ -150,23 +114,23 @@ pub levels-of-spec : {M : Type 1} → statement M
 levels-of-spec =
     tie.close
     (tie.spec
-    year-minutes-requires
-    first-minute-requires
-    end-minute-requires
-    lost-energy-requires
+    (λ c κs. search needs)
+    (λ c κs. search needs)
+    (λ c κs. search needs)
+    (λ c κs. search needs)
     measured-requires
-    tested-requires
-    enum-known-target
+    (λ c κs. search needs)
+    (λ c. search needs)
     returns
-    check-year-requires
-    enum-known-answer
+    (λ c κs. search needs)
+    (λ c. search needs)
     returns-2
-    enum-told
+    (λ c. search needs)
     cap-of-requires
-    is-met-requires
+    (λ c κs. search needs)
     floor-of-requires
-    within-requires
+    (λ c κs. search needs)
     returns-3
-    within-requires-2
+    (λ c κs. search needs)
     returns-4
     returns-5)

@@ -3,18 +3,6 @@ use Rattle.levels.proofs.Measured.{Asked, asked, lost-within, measured-
 use Rattle.levels.proofs.measuring.availability_of.Statement.{statement}
 use Rattle.levels.proofs.measuring.availability_of.Tie as tie
 
-year-minutes-requires : tie.Need-year-minutes-requires
-year-minutes-requires c κs = search needs
-
-first-minute-requires : tie.Need-first-minute-requires
-first-minute-requires c κs = search needs
-
-end-minute-requires : tie.Need-end-minute-requires
-end-minute-requires c κs = search needs
-
-lost-energy-requires : tie.Need-lost-energy-requires
-lost-energy-requires c κs = search needs
-
 -- what the calendar and the log answered
 gave : (c : tie.After-lost-energy) → (let y = c .before .before .before in Asked (y .before .args .log) (y .before .args .number) (y .year-minutes .result) (c .lost-energy .result))
 gave c = asked (c .before .before .before .year-minutes .ensures) (c .before .before .first-minute .ensures) (c .before .end-minute .ensures) (c .lost-energy .ensures)
@@ -29,9 +17,9 @@ pub availability-of-spec : {M : Type 1} → statement M
 availability-of-spec =
     tie.close
     (tie.spec
-    year-minutes-requires
-    first-minute-requires
-    end-minute-requires
-    lost-energy-requires
+    (λ c κs. search needs)
+    (λ c κs. search needs)
+    (λ c κs. search needs)
+    (λ c κs. search needs)
     measured-requires
     returns)

@@ -7,23 +7,8 @@ use Rattle.levels.proofs.measuring.check_target.Tie as tie
 gave : (c : tie.After-lost-energy) → (let y = c .before .before .before in Asked (y .before .args .log) (y .before .args .number) (y .year-minutes .result) (c .lost-energy .result))
 gave c = asked (c .before .before .before .year-minutes .ensures) (c .before .before .first-minute .ensures) (c .before .end-minute .ensures) (c .lost-energy .ensures)
 
-year-minutes-requires : tie.Need-year-minutes-requires
-year-minutes-requires c κs = search needs
-
-first-minute-requires : tie.Need-first-minute-requires
-first-minute-requires c κs = search needs
-
-end-minute-requires : tie.Need-end-minute-requires
-end-minute-requires c κs = search needs
-
-lost-energy-requires : tie.Need-lost-energy-requires
-lost-energy-requires c κs = search needs
-
 measured-requires : tie.Need-measured-requires
 measured-requires c κs = lost-within (gave c)
-
-tested-requires : tie.Need-tested-requires
-tested-requires c κs = search needs
 
 returns : tie.Need-returns
 returns c =
@@ -34,10 +19,10 @@ pub check-target-spec : {M : Type 1} → statement M
 check-target-spec =
     tie.close
     (tie.spec
-    year-minutes-requires
-    first-minute-requires
-    end-minute-requires
-    lost-energy-requires
+    (λ c κs. search needs)
+    (λ c κs. search needs)
+    (λ c κs. search needs)
+    (λ c κs. search needs)
     measured-requires
-    tested-requires
+    (λ c κs. search needs)
     returns)

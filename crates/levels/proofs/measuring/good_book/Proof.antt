@@ -34,15 +34,9 @@ returns-5 : tie.Need-returns-5
 unfolding goodBook
 returns-5 c = search facts
 
-good-sum-requires : tie.Need-good-sum-requires
-good-sum-requires c κs = search needs
-
 returns-6 : tie.Need-returns-6
 unfolding goodBook
 returns-6 c = search (facts, capped (c .before) ∙ not-true _ (c .if6 .taken))
-
-good-sum-requires-2 : tie.Need-good-sum-requires-2
-good-sum-requires-2 c κs = search needs
 
 returns-7 : tie.Need-returns-7
 unfolding goodBook
@@ -70,7 +64,7 @@ good-book-spec =
     returns-3
     returns-4
     returns-5
-    good-sum-requires
+    (λ c κs. search needs)
     returns-6
-    good-sum-requires-2
+    (λ c κs. search needs)
     returns-7)

@@ -31,20 +31,11 @@ run-good : (c : tie.Else3) → small (c .before .before .before .before .before 
 run-good c = run (c .before) ∙ not-false _ (c .if3 .left)
 
 -- ---- the needs
-good-level-requires : tie.Need-good-level-requires
-good-level-requires c κs = search needs
-
 returns : tie.Need-returns
 returns c = rw (levelled (c .before) ∙ not-true _ (c .if1 .taken))
 
-within-requires : tie.Need-within-requires
-within-requires c κs = search needs
-
 returns-2 : tie.Need-returns-2
 returns-2 c = rw (level-good (c .before .before), built (c .before) ∙ not-true _ (c .if2 .taken))
-
-within-requires-2 : tie.Need-within-requires-2
-within-requires-2 c κs = search needs
 
 returns-3 : tie.Need-returns-3
 returns-3 c =
@@ -57,9 +48,6 @@ sum-of-requires c κs =
     rw (toZ-ofZ (s .fits .preliminary), toZ-ofZ (s .fits .construction), toZ-ofZ (s .fits .opex))
     (leb-true (natAbs p) 1000000000 (and-right (nonNeg p) (small p) (level-good (c .before .before .before .before))), leb-true (natAbs (s .args .construction)) 1000000000 (built-good (c .before .before)), leb-true (natAbs (s .args .opex)) 1000000000 (run-good c))
 
-good-level-requires-2 : tie.Need-good-level-requires-2
-good-level-requires-2 c κs = search needs
-
 returns-4 : tie.Need-returns-4
 returns-4 c =
     let e = c .before .before in
@@ -71,12 +59,12 @@ pub good-sum-spec : {M : Type 1} → statement M
 good-sum-spec =
     tie.close
     (tie.spec
-    good-level-requires
+    (λ c κs. search needs)
     returns
-    within-requires
+    (λ c κs. search needs)
     returns-2
-    within-requires-2
+    (λ c κs. search needs)
     returns-3
     sum-of-requires
-    good-level-requires-2
+    (λ c κs. search needs)
     returns-4)

@@ -17,46 +17,19 @@ within c =
     rw (e .before .first-minute .ensures, e .end-minute .ensures) (e .before .before .before .before .pre (c .before .lost .given .0 .0) (c .before .lost .given .1))
 
 -- ---- the needs
-book-holds-requires : tie.Need-book-holds-requires
-book-holds-requires c κs = search needs
-
 returns : tie.Need-returns
 returns c = rw (sym (c .before .book-holds .ensures) ∙ not-true _ (c .if1 .taken))
 
-first-minute-requires : tie.Need-first-minute-requires
-first-minute-requires c κs = search needs
-
-end-minute-requires : tie.Need-end-minute-requires
-end-minute-requires c κs = search needs
-
-enum-known-lost : tie.Need-enum-known-lost
-enum-known-lost c = search needs
-
-enum-told : tie.Need-enum-told
-enum-told c = search needs
-
 returns-2 : tie.Need-returns-2
 returns-2 c = rw (held (c .before .before .before .before), c .enum-told .given .1)
-
-enum-known-minutes : tie.Need-enum-known-minutes
-enum-known-minutes c = search needs
 
 returns-3 : tie.Need-returns-3
 returns-3 c =
     let k = c .before .before .before in
     rw (held (k .before .before .before .before .before), k .before .lost .given .1, c .before .minutes .given .1)
 
-enum-told-2 : tie.Need-enum-told-2
-enum-told-2 c = search needs
-
 sub-figure : tie.Need-sub-figure
 sub-figure c = within (c .before .before) .0
-
-cast-figure : tie.Need-cast-figure
-cast-figure c = search needs
-
-mul-figure : tie.Need-mul-figure
-mul-figure c = search needs
 
 sub-figure-2 : tie.Need-sub-figure-2
 sub-figure-2 c = within (c .before .before) .1
@@ -71,18 +44,18 @@ pub measured-spec : {M : Type 1} → statement M
 measured-spec =
     tie.close
     (tie.spec
-    book-holds-requires
+    (λ c κs. search needs)
     returns
-    first-minute-requires
-    end-minute-requires
-    enum-known-lost
-    enum-told
+    (λ c κs. search needs)
+    (λ c κs. search needs)
+    (λ c. search needs)
+    (λ c. search needs)
     returns-2
-    enum-known-minutes
+    (λ c. search needs)
     returns-3
-    enum-told-2
+    (λ c. search needs)
     sub-figure
-    cast-figure
-    mul-figure
+    (λ c. search needs)
+    (λ c. search needs)
     sub-figure-2
     returns-4)

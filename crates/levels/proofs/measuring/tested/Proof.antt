@@ -5,21 +5,6 @@ use borrow.Author.Tests.{le-leb, lt-leb}
 use Rattle.levels.proofs.measuring.tested.Statement.{statement}
 use Rattle.levels.proofs.measuring.tested.Tie as tie
 
-enum-known-available : tie.Need-enum-known-available
-enum-known-available c = search needs
-
-enum-known-available-2 : tie.Need-enum-known-available-2
-enum-known-available-2 c = search needs
-
-target-of-requires : tie.Need-target-of-requires
-target-of-requires c κs = search needs
-
-cast-if1 : tie.Need-cast-if1
-cast-if1 c = search needs
-
-mul-if1 : tie.Need-mul-if1
-mul-if1 c = search needs
-
 returns : tie.Need-returns
 returns c = rw (c .before .available .given .1)
 
@@ -33,11 +18,11 @@ pub tested-spec : {M : Type 1} → statement M
 tested-spec =
     tie.close
     (tie.spec
-    enum-known-available
-    enum-known-available-2
-    target-of-requires
-    cast-if1
-    mul-if1
+    (λ c. search needs)
+    (λ c. search needs)
+    (λ c κs. search needs)
+    (λ c. search needs)
+    (λ c. search needs)
     returns
     returns-2
     returns-3)

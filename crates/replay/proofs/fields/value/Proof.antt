@@ -15,21 +15,6 @@ front n xs ys h =
     let le : n ≤ length (xs ++ ys) = simp length-append (omega (arith, h)) in
     (le, sym (length-take-le n (xs ++ ys) le))
 
-held-requires : tie.Need-held-requires
-held-requires c κs = search needs
-
-slice-relend-prefix-read-full : tie.Need-slice-relend-prefix-read-full
-slice-relend-prefix-read-full c = search needs
-
-slice-aggregate-read-full : tie.Need-slice-aggregate-read-full
-slice-aggregate-read-full c = search needs
-
-read-full-requires : tie.Need-read-full-requires
-read-full-requires c κs = search needs
-
-same-length : tie.Need-same-length
-same-length c = search needs
-
 returns : tie.Need-returns
 returns c =
     let r = c .before .before .read-full in
@@ -40,9 +25,9 @@ pub value-spec : {M : Type 1} → statement M
 value-spec =
     tie.close
     (tie.spec
-    held-requires
-    slice-relend-prefix-read-full
-    slice-aggregate-read-full
-    read-full-requires
-    same-length
+    (λ c κs. search needs)
+    (λ c. search needs)
+    (λ c. search needs)
+    (λ c κs. search needs)
+    (λ c. search needs)
     returns)

@@ -10,37 +10,16 @@ Inv-loop s next₀ i₀ next i = i ≤ length s
 abbrev μ-loop : tie.MeasureT-loop
 μ-loop s next₀ i₀ next i = length s - i
 
-loop-holds : tie.Need-loop-holds Inv-loop μ-loop
-loop-holds c = search needs
-
-shared-slice-read-more-of-byte : tie.Need-shared-slice-read-more-of-byte Inv-loop μ-loop
-shared-slice-read-more-of-byte c = search needs
-
-more-of-byte-requires : tie.Need-more-of-byte-requires Inv-loop μ-loop
-more-of-byte-requires c κs = search needs
-
-add-i : tie.Need-add-i Inv-loop μ-loop
-add-i c = search needs
-
-loop-less : tie.Need-loop-less Inv-loop μ-loop
-loop-less c = search needs
-
-loop-again : tie.Need-loop-again Inv-loop μ-loop
-loop-again c = search needs
-
-returns : tie.Need-returns Inv-loop μ-loop
-returns c = search needs
-
 pub of-bytes-spec : {M : Type 1} → statement M
 of-bytes-spec =
     tie.close
     (tie.spec
     Inv-loop
     μ-loop
-    loop-holds
-    shared-slice-read-more-of-byte
-    more-of-byte-requires
-    add-i
-    loop-less
-    loop-again
-    returns)
+    (λ c. search needs)
+    (λ c. search needs)
+    (λ c κs. search needs)
+    (λ c. search needs)
+    (λ c. search needs)
+    (λ c. search needs)
+    (λ c. search needs))
