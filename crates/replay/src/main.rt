@@ -50,7 +50,7 @@ fn stop(call: u64, place: u64) {
     }
 }
 
-// The calls that change something, a line each as in `calls`; those that ask stand there.
+// The calls that change something, a line each as in `calls`, which has those that ask.
 fn carry_out(mut log: Log, mut book: Book, mut years: [Year; 5]) {
     let mut space = [0u8; ROOM];
     let mut kept = [0u8; KEPT];
