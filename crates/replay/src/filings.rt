@@ -1,5 +1,6 @@
 // Returns read and written.
 use super::fields::KEPT;
+use super::fields::ROOM;
 use super::fields::held;
 use super::fields::u16_at;
 use super::fields::u32_at;
@@ -79,8 +80,15 @@ fn written(y: Year, out: &mut [u8], whole: bool) -> bool {
     answer(done, out, whole)
 }
 
-// Room to lend. Its length is all that is said of it.
-fn room_to_lend() -> [u8; KEPT]
+// Room to lend, as much as two bytes can ask for. Its length is all that is said of it.
+fn room_to_lend() -> [u8; ROOM]
+    ensures { λ r. ⌜ 65535 ≡ length r ⌝ }
+{
+    [0; ROOM]
+}
+
+// Room to lend for the kept bytes.
+fn long_room() -> [u8; KEPT]
     ensures { λ r. ⌜ 262144 ≡ length r ⌝ }
 {
     [0; KEPT]
@@ -109,23 +117,21 @@ fn refiled(s: &[u8], out: &mut [u8]) -> bool {
 }
 
 // A return read and written again.
-fn again(s: &[u8], room: u32) -> bool {
+pub(crate) fn refile(s: &[u8]) -> bool {
+    if s.len() < 2 {
+        return false;
+    }
     let mut space = room_to_lend();
-    let n = held(room as usize, &space);
-    refiled(s, &mut space[..n])
+    let n = held(u16_at(s, 0) as usize, &space);
+    refiled(&s[2..], &mut space[..n])
 }
 
 pub(crate) fn refile_kept(s: &[u8], kept: &[u8; KEPT], bytes: usize) -> bool {
     let all: &[u8] = kept;
     let n = held(bytes, all);
-    again(&all[..n], u32_at(s, 0))
-}
-
-pub(crate) fn refile(s: &[u8]) -> bool {
-    if s.len() < 2 {
-        return false;
-    }
-    again(&s[2..], u16_at(s, 0) as u32)
+    let mut space = long_room();
+    let m = held(u32_at(s, 0) as usize, &space);
+    refiled(&all[..n], &mut space[..m])
 }
 
 // What `daysheet` prints of a return.

@@ -6,7 +6,7 @@ use Rattle.replay.proofs.filings.room_to_lend.Statement.{statement}
 use Rattle.replay.proofs.filings.room_to_lend.Tie as tie
 
 returns : tie.Need-returns
-returns c = sym (length-replicate {A = ℕ} 262144 0)
+returns c = sym (length-replicate {A = ℕ} 65535 0)
 
 pub room-to-lend-spec : {M : Type 1} → statement M
 room-to-lend-spec = tie.close (tie.spec returns)
