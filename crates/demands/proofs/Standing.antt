@@ -20,7 +20,7 @@ use Rattle.entries.proofs.Keeping.{total-filed}
 use Rattle.outage.specs.Log.{goodRegimeEnd, lastRegimeEnd, live, holding}
 use Rattle.outage.specs.Calls.{EmptyGives, emptyLog, enterRows, enterLog, cancelRows, cancelLog}
 use Rattle.demands.specs.Log.{Call, entering, cancelling, Promised, Turn, logOf, RanFrom, logAfter, Event, put, takenOut, happened, cancelledBy, cancelledSince, standing}
-use Rattle.outage.proofs.Holding.{holding-live, holding-valid}
+use Rattle.outage.proofs.Holding.{with-live, holding-valid}
 use Rattle.demands.specs.Runs.{eventsOf}
 use Rattle.demands.proofs.Runs.{run-keeps}
 use Rattle.demands.proofs.Keeping.{Sound, entered-sound, cancelled-sound}
@@ -78,7 +78,7 @@ module _ (regimeEnd : ℕ) (log : Log) (before : List Event) (k : Stands regimeE
       record {
         sound = entered-sound log (k .sound) e h;
         same = λ f.
-            ap (total f) (holding-live (log .«regime_end») (filed e (live log)))
+            ap (total f) (with-live log (filed e (live log)))
             ∙ total-filed f e (live log)
             ∙ ap (λ (x : ℕ). x + f e) (k .same f)
             ∙ sym (ap (total f) (standing-put before e) ∙ total-append f (standing before) (e ∷ []) ∙ ap (λ (x : ℕ). total f (standing before) + x) (add-zero (f e)));
@@ -92,7 +92,7 @@ module _ (regimeEnd : ℕ) (log : Log) (before : List Event) (k : Stands regimeE
       record {
         sound = cancelled-sound log (k .sound) s;
         same = λ f.
-            ap (total f) (holding-live (log .«regime_end») (without s (live log)))
+            ap (total f) (with-live log (without s (live log)))
             ∙ total-keep f (λ (x : Entry). not (hasKey s x)) (live log)
             ∙ k .same (λ (x : Entry). cond (not (hasKey s x)) (f x) 0)
             ∙ sym (ap (total f) (standing-out before s) ∙ total-keep f (λ (x : Entry). not (hasKey s x)) (standing before));
