@@ -12,7 +12,7 @@ use Rattle.refusals.proofs.Laws.{all-clear}
 use Rattle.calendar.specs.declared.YearMinutes.{YearMinutes}
 use Rattle.calendar.specs.Years.{goodYear, yearRows, minutesNumber, firstFigure, endFigure, MinutesGives}
 use Rattle.entries.specs.declared.Entry.{Entry}
-use Rattle.entries.specs.Row.{covers, lostIn}
+use Rattle.entries.specs.Row.{sameEntry, covers, lostIn}
 use Rattle.outage.specs.declared.Log.{Log}
 use Rattle.outage.specs.declared.Logged.{Logged}
 use Rattle.outage.specs.declared.losing.LostEnergy.{LostEnergy}
@@ -21,7 +21,7 @@ use Rattle.outage.specs.Log.{mostMw, validLog, live, lostEnergy}
 use Rattle.outage.specs.Calls.{EmptyGives, lostFigure, LostGives}
 use Rattle.outage.proofs.Holding.{live-length}
 use Rattle.entries.proofs.Minutes.{shares-says, shares-made}
-use Rattle.demands.specs.Log.{Turn, RanFrom, logAfter, sameEntry, acceptedNotCancelled}
+use Rattle.demands.specs.Log.{Turn, RanFrom, logAfter, acceptedNotCancelled}
 use Rattle.demands.specs.Demand3.{Demand3}
 use Rattle.demands.proofs.Lost.{by-minutes, parts-add, year-lost, year-most}
 use Rattle.demands.proofs.Standing.{run-stands}

@@ -1,5 +1,5 @@
 -- Calls on the log, their results, and what calls and results say of the entries that should be held.
-use mathlib.Core.Bool.{Bool, false, cond, _&&_, _||_}
+use mathlib.Core.Bool.{Bool, false, cond, _||_}
 use mathlib.Core.List.{List, [], _∷_}
 use Prim.Native.Nat.{ℕ}
 use lib.Dec.{eqb}
@@ -10,7 +10,7 @@ use Rattle.entries.specs.declared.Entry.{Entry}
 use Rattle.outage.specs.declared.Log.{Log}
 use Rattle.outage.specs.declared.Logged.{Logged}
 use Rattle.entries.specs.declared.Key.{Key}
-use Rattle.entries.specs.Row.{zeroEntry, hasKey}
+use Rattle.entries.specs.Row.{zeroEntry, sameEntry, hasKey}
 use Rattle.outage.specs.Calls.{EnterGives, CancelGives}
 use Rattle.demands.specs.Runs.{Ran, after, eventsOf}
 
@@ -71,9 +71,6 @@ abbrev pub acceptedNotCancelled : List Turn → List Entry
 acceptedNotCancelled turns = standing (eventsOf happened turns)
 
 -- ---- what a log holds
-abbrev pub sameEntry : Entry → Entry → Bool
-sameEntry x y = eqb (x .start) (y .start) && (eqb (x .end) (y .end) && eqb (x .mw) (y .mw))
-
 -- how many times an entry stands in a list
 abbrev pub timesIn : Entry → List Entry → ℕ
 timesIn x es = total (λ (y : Entry). cond (sameEntry x y) 1 0) es
