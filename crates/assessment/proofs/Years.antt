@@ -14,6 +14,7 @@ use Rattle.lists.specs.Lists.{all}
 use Rattle.lists.proofs.Lists.{all-at}
 use Rattle.lists.proofs.Places.{drop-next, turned-next}
 use Rattle.outage.specs.declared.Log.{Log}
+use Rattle.outage.specs.Log.{logMade}
 use Rattle.year.specs.declared.Year.{Year}
 use Rattle.year.specs.Year.{goodYearRecord}
 use Rattle.levels.specs.declared.Book.{Book}
@@ -37,7 +38,7 @@ noYear = record {
   «line_count» = 0;
   exceptional = false;
   within = pos 0;
-  log = record { entries = []; count = 0; «regime_end» = 0 };
+  log = logMade [] 0 0;
 }
 
 -- ---- a list's element, whatever stands for a missing one
