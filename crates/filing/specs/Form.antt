@@ -87,6 +87,10 @@ withinValue = such (λ z. not (isNone z)) (int 1000000000)
 abbrev pub lineItem : List Line → Item Line
 lineItem before = tagged 6 lineValue
 
+-- how many bytes the field of an outage has
+abbrev pub entryBytes : ℕ
+entryBytes = 13
+
 abbrev pub entryItem : ℕ → List Entry → Item Entry
 entryItem number before = tagged 7 (entryValue number before)
 
@@ -138,3 +142,7 @@ Parts = RequiredParts × BodyParts
 
 unfoldable pub form : Codec Parts
 form = both required (λ h. body (h .0))
+
+-- "The longest valid return has 6,077 bytes"
+abbrev pub longest : ℕ
+longest = 6077

@@ -20,15 +20,15 @@ use Rattle.codec.specs.Message.{Messages}
 use Rattle.codec.proofs.Message as Message
 use Rattle.codec.proofs.Values.{num-laws}
 use Rattle.codec.proofs.Lengths.{field-length, unless-length, texts-length, sizes-most}
-use Rattle.filing.specs.Form.{yearValue, pppiValue, rateValue, aicValue, isLeftOut, factorsValue, markValue, isNone, withinValue, lineItem, entryItem, Parts, form}
+use Rattle.filing.specs.Form.{yearValue, pppiValue, rateValue, aicValue, isLeftOut, factorsValue, markValue, isNone, withinValue, lineItem, entryItem, entryBytes, longest, Parts, form}
 use Rattle.filing.specs.Return.{yearOf, partsOf, mostBytes, Reading, whole, refused, readingOf, isRefused, yearIn, readRows, readYear, validYear, returnOf}
 use Rattle.round_trip.specs.Places.{Files}
 use Rattle.round_trip.proofs.Lawful.{line-item, entry-item, factors-laws, within-laws, form-lawful}
 use Rattle.round_trip.proofs.Years.{Fine, fine, fine-made, year-fine, year-back, parts-valid, parts-back, or-second}
 
--- ---- "The longest valid return has 6,077 bytes", the shortest 23
+-- ---- no valid return has more bytes than the longest, nor fewer than 23
 pub record Long (p : Parts) : Type 0 where
-  pub most : length (form .write p) ≤ 6077
+  pub most : length (form .write p) ≤ longest
   pub least : 23 ≤ length (form .write p)
 
 long : (p : Parts) → Fine p → Long p
@@ -47,8 +47,8 @@ long p f =
     unless-length (isLeftOut (p .0 .0) c) (fieldOf 5 (factorsValue (p .0 .0)) c) 7 (λ e. field-length 5 (factorsValue (p .0 .0)) (factors-laws (p .0 .0)) c (or-second (isLeftOut (p .0 .0) c) _ (f .factored) e)) in
     let n6 : length (texts lineItem [] ls) ≤ 13 * length ls =
     omega (arith, texts-length lineItem line-item [] ls (f .lined), sizes-most lineItem 13 (λ b l. omega arith) [] ls) in
-    let n7 : length (texts (entryItem (p .0 .0)) [] es) ≤ 13 * length es =
-    omega (arith, texts-length (entryItem (p .0 .0)) (entry-item (p .0 .0)) [] es (f .logged), sizes-most (entryItem (p .0 .0)) 13 (λ b e. omega arith) [] es) in
+    let n7 : length (texts (entryItem (p .0 .0)) [] es) ≤ entryBytes * length es =
+    omega (arith, texts-length (entryItem (p .0 .0)) (entry-item (p .0 .0)) [] es (f .logged), sizes-most (entryItem (p .0 .0)) entryBytes (λ b e. omega arith) [] es) in
     let n8 : length (unless (eqb m 0) (fieldOf 8 markValue m)) ≤ 4 =
     unless-length (eqb m 0) (fieldOf 8 markValue m) 4 (λ e. field-length 8 markValue (num-laws 1 1 1 (omega arith)) m (or-second (eqb m 0) _ (f .marked) e)) in
     let n9 : length (unless (isNone w) (fieldOf 9 withinValue w)) ≤ 11 =
@@ -80,7 +80,7 @@ return-messages =
 
 -- ---- a valid year, with its 64 line slots and 400 entry slots
 module _ (y : Year) (row : length (y .lines) ≡ lineSlots) (slotted : length (y .log .entries) ≡ slots) (v : validYear y ≡ true) where
-  pub fits : (length (returnOf y) ≤ 6077) × (23 ≤ length (returnOf y))
+  pub fits : (length (returnOf y) ≤ longest) × (23 ≤ length (returnOf y))
   unfolding returnOf
   fits = let n = long (partsOf y) (year-fine y v row slotted) in (n .most, n .least)
 

@@ -19,7 +19,7 @@ use Rattle.codec.specs.Format.{fieldOf, texts, unless}
 use Rattle.codec.proofs.Numbers.{bytes-length}
 use Rattle.codec.proofs.Items.{length-head}
 use Rattle.codec.proofs.Lengths.{texts-size, sizes-same}
-use Rattle.filing.specs.Form.{factorsValue, markValue, withinValue, lineValue, entryLayout, entryItem, lineItem, factors, mark, within, required, form}
+use Rattle.filing.specs.Form.{factorsValue, markValue, withinValue, lineValue, entryLayout, entryItem, entryBytes, lineItem, factors, mark, within, required, form}
 use Rattle.filing.specs.Return.{logFits, fileable, returnOf, validYear}
 use Rattle.writing.specs.Written.{anyEntry, noEntries, noLines}
 
@@ -28,7 +28,7 @@ pub line-size : (l : Line) → length (fieldOf 6 lineValue l) ≡ 13
 unfolding fieldOf
 line-size l = simp (length-append, length-head, bytes-length)
 
-pub entry-size : (e : Entry) → length (fieldOf 7 entryLayout e) ≡ 13
+pub entry-size : (e : Entry) → length (fieldOf 7 entryLayout e) ≡ entryBytes
 unfolding fieldOf
 entry-size e = simp (length-append, length-head, bytes-length)
 
@@ -112,15 +112,15 @@ module _ (y : Year) (valid : validYear y ≡ true) where
         ∙ ap (λ (n : ℕ). 13 * n) (length-take-le (y .«line_count») (y .lines) (omega (arith, few-lines)))
 
   module _ (e : length (y .log .entries) ≡ slots) where
-    outages-size : length (logged y) ≡ 13 * y .log .count
+    outages-size : length (logged y) ≡ entryBytes * y .log .count
     outages-size =
         texts-size anyEntry (λ before x. entry-size x) noEntries (live (y .log))
-        ∙ sizes-same anyEntry 13 (λ before x. refl) noEntries (live (y .log))
-        ∙ ap (λ (n : ℕ). 13 * n) (length-take-le (y .log .count) (y .log .entries) (omega (arith, few-outages)))
+        ∙ sizes-same anyEntry entryBytes (λ before x. refl) noEntries (live (y .log))
+        ∙ ap (λ (n : ℕ). entryBytes * n) (length-take-le (y .log .count) (y .log .entries) (omega (arith, few-outages)))
 
   -- how many bytes its return has
   pub year-size : length (y .lines) ≡ lineSlots → length (y .log .entries) ≡ slots
-      → length (returnOf y) ≡ 23 + (length (factored y) + (13 * y .«line_count» + (13 * y .log .count + (length (marked y) + length (paid y)))))
+      → length (returnOf y) ≡ 23 + (length (factored y) + (13 * y .«line_count» + (entryBytes * y .log .count + (length (marked y) + length (paid y)))))
   year-size l e =
       ap length (parts-of y)
       ∙ length-append (headed y) (factored y ++ (lined y ++ (logged y ++ (marked y ++ paid y))))

@@ -1,4 +1,5 @@
 // Single fields of a return, written into a buffer with room for them.
+use super::rows::OUTAGE_BYTES;
 use codec::put;
 use codec::put_head;
 use codec::put_number;
@@ -13,7 +14,7 @@ ghost use lib.ListN.{length};
 ghost use Rattle.outage.specs.Log.{slots};
 ghost use Rattle.year.specs.Year.{lineSlots};
 ghost use Rattle.codec.specs.Buffers.{Wrote};
-ghost use Rattle.filing.specs.Form.{factors, mark, within};
+ghost use Rattle.filing.specs.Form.{entryBytes, factors, mark, within};
 ghost use Rattle.writing.specs.Written.{restSize};
 
 // 05: the partial-year factors, unless a return of the year leaves them out.
@@ -81,7 +82,7 @@ pub(crate) fn size_of(
     outages: usize,
 ) -> usize
     requires { ⌜ (lines ≤ lineSlots) × (outages ≤ slots) ⌝ }
-    ensures { λ r. ⌜ r ≡ 23 + (13 * lines + (13 * outages + restSize year pyc pyf exceptional paid)) ⌝ }
+    ensures { λ r. ⌜ r ≡ 23 + (13 * lines + (entryBytes * outages + restSize year pyc pyf exceptional paid)) ⌝ }
 {
-    23 + (13 * lines + (13 * outages + size_of_rest(year, pyc, pyf, exceptional, paid)))
+    23 + (13 * lines + (OUTAGE_BYTES * outages + size_of_rest(year, pyc, pyf, exceptional, paid)))
 }
