@@ -1,7 +1,7 @@
 -- Document 01, "The yearly return": the table of tags.
 use mathlib.Core.Bool.{Bool, not, _&&_}
 use mathlib.Core.List.{List, [], _∷_, _++_}
-use Prim.Native.Nat.{ℕ}
+use Prim.Native.Nat.{ℕ, _+_}
 use lib.Dec.{leb, ltb, eqb}
 use lib.IntN.{ℤ, pos, natAbs}
 use Rattle.calendar.specs.Years.{lastYear, yearStart, yearEnd}
@@ -87,9 +87,9 @@ withinValue = such (λ z. not (isNone z)) (int 1000000000)
 abbrev pub lineItem : List Line → Item Line
 lineItem before = tagged 6 lineValue
 
--- how many bytes the field of an outage has
+-- how many bytes the field of an outage has: a head of three, and its layout
 abbrev pub entryBytes : ℕ
-entryBytes = 13
+entryBytes = 3 + entryLayout .len
 
 abbrev pub entryItem : ℕ → List Entry → Item Entry
 entryItem number before = tagged 7 (entryValue number before)
