@@ -1,15 +1,22 @@
-// The table of the calls that change nothing, a line each; `main` has those that change something. A call is 100,000 times
-// the field's tag and the length of its value: `4_00008` is tag 4 with 8 bytes. Where any length will do, its tag alone stands
-// there.
+// The table of calls, a line each, but for those that change the log, the book or the kept bytes, which `main` has. A call is
+// 100,000 times the field's tag and the length of its value: `4_00008` is tag 4 with 8 bytes. Where any length will do, its tag
+// alone stands there.
 use super::asking;
 use super::fields::KEPT;
 use super::fields::of_year;
 use super::filings;
+use super::setting;
 use super::showing;
 use codec::number;
 use levels::Book;
 use outage::Log;
 use year::Year;
+
+// A year after a call, and whether the call set it.
+pub(crate) struct AfterSet {
+    pub(crate) year: Year,
+    pub(crate) done: bool,
+}
 
 // The call as the tables have it, or 0 where a slot, a line, a mark or the place of a year is missing or none.
 pub(crate) fn listed(call: u64, s: &[u8]) -> u64 {
@@ -18,6 +25,7 @@ pub(crate) fn listed(call: u64, s: &[u8]) -> u64 {
         32 => fitting(call, number(s, 0, 2) < 400),
         35 => fitting(call, number(s, 16, 1) < 2),
         36 => fitting(call, number(s, 1, 1) < 64),
+        39 => fitting(call, number(s, 0, 1) < 5),
         40 => 40,
         _ => call,
     }
@@ -27,7 +35,34 @@ fn fitting(call: u64, fits: bool) -> u64 {
     if fits { call } else { 0 }
 }
 
-// Whether it is one of these.
+// The calls that set a year: the year after it, and whether it is one of them.
+pub(crate) fn set_year(
+    call: u64,
+    s: &[u8],
+    kept: &[u8; KEPT],
+    bytes: usize,
+    y: Year,
+    log: Log,
+) -> AfterSet {
+    match of_year(call, s) {
+        17 => with(filings::read(s)),
+        21_00001 => with(filings::read_kept(kept, bytes)),
+        35_00033 => with(setting::year(s, y)),
+        36_00012 => with(setting::line(s, y)),
+        37_00001 => with(setting::fresh()),
+        38_00001 => with(setting::log_of(y, log)),
+        _ => AfterSet {
+            year: y,
+            done: false,
+        },
+    }
+}
+
+fn with(year: Year) -> AfterSet {
+    AfterSet { year, done: true }
+}
+
+// The calls that change nothing: whether it is one of them.
 pub(crate) fn ask(
     call: u64,
     s: &[u8],
@@ -54,9 +89,9 @@ fn ask_of_year(call: u64, s: &[u8], book: Book, y: Year, log: Log) -> bool {
     match of_year(call, s) {
         8_00001 => asking::levels(book, y, log),
         9_00001 => asking::revenue(y),
-        18_00003 => filings::write(s, y),
+        18_00003 => filings::write(s, y, false),
         49_00001 => showing::year(y),
-        51_00003 => filings::show(s, y),
+        51_00003 => filings::write(s, y, true),
         _ => ask_of_value(call, s),
     }
 }

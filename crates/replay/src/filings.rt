@@ -50,7 +50,7 @@ fn fill(out: &mut [u8])
 fn bytes(out: &[u8]) {
     let mut i: usize = 0;
     while i < out.len() {
-        say::figure_8(out[i]);
+        say::byte(out[i]);
         i += 1;
     }
 }
@@ -94,20 +94,11 @@ fn long_room() -> [u8; KEPT]
     [0; KEPT]
 }
 
-// A year written into a buffer of the room asked for.
-fn lent(y: Year, room: u16, whole: bool) -> bool {
+// A year written into a buffer of the room asked for, and its sum or all of it said.
+pub(crate) fn write(s: &[u8], y: Year, whole: bool) -> bool {
     let mut space = room_to_lend();
-    let n = held(room as usize, &space);
+    let n = held(u16_at(s, 1) as usize, &space);
     written(y, &mut space[..n], whole)
-}
-
-pub(crate) fn write(s: &[u8], y: Year) -> bool {
-    lent(y, u16_at(s, 1), false)
-}
-
-// What writing a year gives, byte for byte.
-pub(crate) fn show(s: &[u8], y: Year) -> bool {
-    lent(y, u16_at(s, 1), true)
 }
 
 fn refiled(s: &[u8], out: &mut [u8]) -> bool {

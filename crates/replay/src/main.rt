@@ -10,10 +10,10 @@ mod sums;
 
 use calls::ask;
 use calls::listed;
+use calls::set_year;
 use fields::KEPT;
 use fields::ROOM;
 use fields::least;
-use fields::of_year;
 use fields::u8_at;
 use fields::year_at;
 use levels::Book;
@@ -50,7 +50,7 @@ fn stop(call: u64, place: u64) {
     }
 }
 
-// The calls that change something, a line each as in `calls`, which has those that ask.
+// The calls that change the log, the book or the kept bytes, a line each as in `calls`, which has the others.
 fn carry_out(mut log: Log, mut book: Book, mut years: [Year; 5]) {
     let mut space = [0u8; ROOM];
     let mut kept = [0u8; KEPT];
@@ -63,6 +63,7 @@ fn carry_out(mut log: Log, mut book: Book, mut years: [Year; 5]) {
         let s = &space[..field.length];
         let call = listed(field.call, s);
         let k = year_at(s);
+        let mut done = true;
         match call {
             1_00004 => log = asking::empty(s),
             2_00010 => log = asking::enter(s, log),
@@ -70,20 +71,21 @@ fn carry_out(mut log: Log, mut book: Book, mut years: [Year; 5]) {
             32_00012 => log = setting::slot(s, log),
             33_00012 => log = setting::count(s, log),
             34_00062 => book = setting::book(s),
+            39_00001 => log = setting::log_from(years[k]),
             40 => bytes = keep(&mut kept, bytes, s),
             41_00000 => bytes = setting::forget(),
-            _ => match of_year(call, s) {
-                17 => years[k] = filings::read(s),
-                21_00001 => years[k] = filings::read_kept(&kept, bytes),
-                35_00033 => years[k] = setting::year(s, years[k]),
-                36_00012 => years[k] = setting::line(s, years[k]),
-                37_00001 => years[k] = setting::fresh(),
-                38_00001 => years[k] = setting::log_of(years[k], log),
-                39_00001 => log = setting::log_from(years[k]),
-                _ => if !ask(call, s, &kept, bytes, book, years, years[k], log) {
-                    return stop(call, place);
+            _ => {
+                done = ask(call, s, &kept, bytes, book, years, years[k], log);
+                if !done {
+                    let next = set_year(call, s, &kept, bytes, years[k], log);
+                    let y = next.year;
+                    years[k] = y;
+                    done = next.done;
                 }
             }
+        }
+        if !done {
+            return stop(call, place);
         }
         place = after(place, field.length);
     }

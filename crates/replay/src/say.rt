@@ -14,16 +14,8 @@ pub(crate) fn figure(x: u64) {
     io::print_decimal(STDOUT_FILENO, x);
 }
 
-// A figure of 8, 16 or 32 bits more.
-pub(crate) fn figure_8(x: u8) {
-    figure(x as u64);
-}
-
-pub(crate) fn figure_16(x: u16) {
-    figure(x as u64);
-}
-
-pub(crate) fn figure_32(x: u32) {
+// A byte more.
+pub(crate) fn byte(x: u8) {
     figure(x as u64);
 }
 

@@ -29,7 +29,8 @@ pub(crate) fn count(s: &[u8], mut log: Log) -> Log {
 }
 
 // The book.
-fn book_at(s: &[u8]) -> Book {
+pub(crate) fn book(s: &[u8]) -> Book {
+    say::set();
     Book {
         regime_end: u32_at(s, 0),
         first_target: u32_at(s, 4),
@@ -42,11 +43,6 @@ fn book_at(s: &[u8]) -> Book {
         oraf: i64_at(s, 52),
         miss_factor: u16_at(s, 60),
     }
-}
-
-pub(crate) fn book(s: &[u8]) -> Book {
-    say::set();
-    book_at(s)
 }
 
 // A year, but for its lines and its log.

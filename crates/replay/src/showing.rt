@@ -8,9 +8,9 @@ use year::Line;
 use year::Year;
 
 fn entry(e: Entry) {
-    say::figure_32(e.start);
-    say::figure_32(e.end);
-    say::figure_16(e.mw);
+    say::figure(e.start as u64);
+    say::figure(e.end as u64);
+    say::figure(e.mw as u64);
 }
 
 fn entries(log: Log) {
@@ -25,15 +25,15 @@ fn entries(log: Log) {
 // The log.
 pub(crate) fn log(log: Log) -> bool {
     io::print_decimal(STDOUT_FILENO, log.count as u64);
-    say::figure_32(log.regime_end);
+    say::figure(log.regime_end as u64);
     entries(log);
     say::end()
 }
 
 fn line(l: Line) {
     let amount = l.amount;
-    say::figure_8(l.kind);
-    say::figure_8(l.currency);
+    say::figure(l.kind as u64);
+    say::figure(l.currency as u64);
     say::pounds(amount);
 }
 
@@ -49,11 +49,11 @@ fn lines(rows: [Line; Year::LINES]) {
 // A year's number, index, rate and factors.
 fn factors(number: u8, pppi: u32, rate: u32, aic: u16, pyc: u16, pyf: u16) {
     say::number(number);
-    say::figure_32(pppi);
-    say::figure_32(rate);
-    say::figure_16(aic);
-    say::figure_16(pyc);
-    say::figure_16(pyf);
+    say::figure(pppi as u64);
+    say::figure(rate as u64);
+    say::figure(aic as u64);
+    say::figure(pyc as u64);
+    say::figure(pyf as u64);
 }
 
 // Its line count, its mark and W.
@@ -71,7 +71,7 @@ pub(crate) fn year(y: Year) -> bool {
     rest(y.line_count, y.exceptional, y.within);
     lines(rows);
     say::figure(held.count as u64);
-    say::figure_32(held.regime_end);
+    say::figure(held.regime_end as u64);
     entries(held);
     say::end()
 }
@@ -85,14 +85,14 @@ pub(crate) fn book(b: Book) -> bool {
     let orac = b.orac;
     let oraf = b.oraf;
     io::print_decimal(STDOUT_FILENO, b.regime_end as u64);
-    say::figure_32(b.first_target);
-    say::figure_32(b.last_target);
+    say::figure(b.first_target as u64);
+    say::figure(b.last_target as u64);
     say::pounds(pcl);
     say::pounds(pfl);
     say::pounds(pcac);
     say::pounds(pcaf);
     say::pounds(orac);
     say::pounds(oraf);
-    say::figure_16(b.miss_factor);
+    say::figure(b.miss_factor as u64);
     say::end()
 }
