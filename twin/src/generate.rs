@@ -95,7 +95,7 @@ impl Generator {
     pub fn malformed_field(&mut self) -> Vec<u8> {
         let random = &mut self.random;
         let k_tags = [8, 9, 21, 37, 38, 39, 49];
-        let mut field = match random.below(9) {
+        let mut field = match random.below(10) {
             0 => vec![random.pick(&[0, 23, 31, 42, 47, 52, 255]), 0, 0],
             1 => vec![random.pick(&k_tags), 0, 1, random.pick(&[5, 255])],
             2 => vec![random.pick(&[18, 51]), 0, 3, 5, 0, 0],
@@ -111,6 +111,10 @@ impl Generator {
                 set_year.extend([0; 33]);
                 set_year[3 + 16] = random.pick(&[2, 255]);
                 set_year
+            }
+            8 => {
+                let length = random.pick(&[1, 17, 40]);
+                [&[0, 0, length][..], &vec![0; length as usize]].concat()
             }
             _ => return self.wrong_length(),
         };

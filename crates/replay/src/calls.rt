@@ -1,6 +1,6 @@
 // The table of calls, a line each, but for those that change the log, the book or the kept bytes, which `main` has. A call is
-// 100,000 times the field's tag and the length of its value: `4_00008` is tag 4 with 8 bytes. Where any length will do, its tag
-// alone stands there.
+// 100,000 times the field's tag and the length of its value: `4_00008` is tag 4 with 8 bytes. Where any length will do, 99,999
+// stands for it, which no field has.
 use super::asking;
 use super::fields::KEPT;
 use super::fields::of_year;
@@ -21,12 +21,12 @@ pub(crate) struct AfterSet {
 // The call as the tables have it, or 0 where a slot, a line, a mark or the place of a year is missing or none.
 pub(crate) fn listed(call: u64, s: &[u8]) -> u64 {
     match call / 100_000 {
-        17 => fitting(17, 0 < s.len()),
+        17 => fitting(17_99999, 0 < s.len()),
         32 => fitting(call, number(s, 0, 2) < 400),
         35 => fitting(call, number(s, 16, 1) < 2),
         36 => fitting(call, number(s, 1, 1) < 64),
         39 => fitting(call, number(s, 0, 1) < 5),
-        40 => 40,
+        40 => 40_99999,
         _ => call,
     }
 }
@@ -45,7 +45,7 @@ pub(crate) fn set_year(
     log: Log,
 ) -> AfterSet {
     match of_year(call, s) {
-        17 => with(filings::read(s)),
+        17_99999 => with(filings::read(s)),
         21_00001 => with(filings::read_kept(kept, bytes)),
         35_00033 => with(setting::year(s, y)),
         36_00012 => with(setting::line(s, y)),

@@ -14,13 +14,13 @@ pub(crate) const ROOM: usize = 65_535;
 pub(crate) const KEPT: usize = 262_144;
 
 // The next field of the script, its value at the front of the space. Its call is 100,000 times its tag and the length;
-// 0 where the field is cut, END where there is none.
+// 0 where the field is cut, and where there is none END, which no field has: it is longer than any.
 pub(crate) struct Field {
     pub(crate) call: u64,
     pub(crate) length: usize,
 }
 
-pub(crate) const END: u64 = 1;
+pub(crate) const END: u64 = 99_999;
 
 // The number of one, two, four bytes from `at` on.
 pub(crate) fn u8_at(s: &[u8], at: usize) -> u8 {

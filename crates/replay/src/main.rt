@@ -72,7 +72,7 @@ fn carry_out(mut log: Log, mut book: Book, mut years: [Year; 5]) {
             33_00012 => log = setting::count(s, log),
             34_00062 => book = setting::book(s),
             39_00001 => log = setting::log_from(years[k]),
-            40 => bytes = keep(&mut kept, bytes, s),
+            40_99999 => bytes = keep(&mut kept, bytes, s),
             41_00000 => bytes = setting::forget(),
             _ => {
                 done = ask(call, s, &kept, bytes, book, years, years[k], log);
