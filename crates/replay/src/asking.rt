@@ -36,7 +36,8 @@ use settlement::pay;
 use year::Year;
 ghost use Prim.Native.Nat.{_≤_};
 
-// Says what a call on the log gave: the number, the count and the log's sum.
+// Says what a call on the log gave: the number, the count and the log's sum. It sums the log where it has it, since to hand
+// it on for that would copy it.
 fn logged(done: Logged) -> Log {
     let answer = done.answer;
     let log = done.log;
