@@ -362,9 +362,9 @@ static bool call_refile(struct value v)
     return true;
 }
 
-static bool call_sheet(struct value v)
+static bool call_print(struct value v)
 {
-    uint8_t text[SHEET_BYTES];
+    uint8_t text[TEXT_BYTES];
     const size_t length = print_return(v.bytes, v.length, text);
     answer_two(0, length, byte_sum(text, length));
     return true;
@@ -569,7 +569,7 @@ static const struct call CALLS[] = {
     [17] = {call_read, 1, true},
     [18] = {call_write, 3, false},
     [19] = {call_refile, 2, true},
-    [20] = {call_sheet, 0, true},
+    [20] = {call_print, 0, true},
     [32] = {set_slot, 12, false},
     [33] = {set_count, 12, false},
     [34] = {set_book, 62, false},

@@ -109,7 +109,7 @@ fn figure_words(call: &Call, figures: &[i128]) -> Option<String> {
         Call::Write { .. } | Call::Refile { .. } | Call::RefileKept { .. } => {
             format!("{} bytes, buffer sum {}", first?, figures.get(1)?)
         }
-        Call::Sheet { .. } => format!("text of {} bytes, sum {}", first?, figures.get(1)?),
+        Call::Print { .. } => format!("text of {} bytes, sum {}", first?, figures.get(1)?),
         _ => "done".to_string(),
     })
 }

@@ -236,8 +236,8 @@ pub fn malformed(seed: u64, count: u64, command: &[String]) -> Outcome {
     Ok(true)
 }
 
-/// Compares a program that prints day sheets.
-pub fn sheets(seed: u64, count: u64, command: &[String]) -> Outcome {
+/// Compares a program that prints returns.
+pub fn texts(seed: u64, count: u64, command: &[String]) -> Outcome {
     let mut generator = Generator::new(seed);
     let mut heads: BTreeMap<String, u64> = BTreeMap::new();
     for number in 1..=count {
@@ -248,7 +248,7 @@ pub fn sheets(seed: u64, count: u64, command: &[String]) -> Outcome {
             let path = "target/twin-difference.return";
             save(path, &bytes)?;
             println!(
-                "twin: a difference at sheet {number} of seed {seed}, its return is in {path}"
+                "twin: a difference at text {number} of seed {seed}, its return is in {path}"
             );
             println!("model:\n{expected}program:\n{}", String::from_utf8_lossy(&found));
             return Ok(false);
@@ -260,7 +260,7 @@ pub fn sheets(seed: u64, count: u64, command: &[String]) -> Outcome {
     for (head, times) in heads {
         println!("{head}: {times}");
     }
-    println!("twin: {count} sheets compared, 0 differences");
+    println!("twin: {count} texts compared, 0 differences");
     Ok(true)
 }
 

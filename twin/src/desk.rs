@@ -195,7 +195,7 @@ impl Desk {
             }
             Call::Refile { room, bytes } => refile_answer(bytes, *room as usize),
             Call::RefileKept { room } => refile_answer(&self.kept, *room as usize),
-            Call::Sheet { bytes } => {
+            Call::Print { bytes } => {
                 let text = daysheet::text(bytes);
                 row([0, text.len() as i128, byte_sum(text.as_bytes()) as i128])
             }

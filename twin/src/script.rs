@@ -63,7 +63,7 @@ pub enum Call {
     Read { k: u8, bytes: Vec<u8> },
     Write { k: u8, room: u16 },
     Refile { room: u16, bytes: Vec<u8> },
-    Sheet { bytes: Vec<u8> },
+    Print { bytes: Vec<u8> },
     ReadKept { k: u8 },
     RefileKept { room: u32 },
     SetSlot { slot: u16, outage: Slot },
@@ -104,7 +104,7 @@ impl Call {
             Call::Read { .. } => 17,
             Call::Write { .. } => 18,
             Call::Refile { .. } => 19,
-            Call::Sheet { .. } => 20,
+            Call::Print { .. } => 20,
             Call::ReadKept { .. } => 21,
             Call::RefileKept { .. } => 22,
             Call::SetSlot { .. } => 32,
@@ -184,7 +184,7 @@ impl Call {
                 value.u16(*room);
                 value.0.extend(bytes);
             }
-            Call::Sheet { bytes } | Call::Keep { bytes } => value.0.extend(bytes),
+            Call::Print { bytes } | Call::Keep { bytes } => value.0.extend(bytes),
             Call::RefileKept { room } => value.u32(*room),
             Call::SetSlot { slot, outage } => {
                 value.u16(*slot);
@@ -247,7 +247,7 @@ impl Call {
             17 => Call::Read { k: part.k()?, bytes: part.rest() },
             18 => Call::Write { k: part.k()?, room: part.u16()? },
             19 => Call::Refile { room: part.u16()?, bytes: part.rest() },
-            20 => Call::Sheet { bytes: part.rest() },
+            20 => Call::Print { bytes: part.rest() },
             21 => Call::ReadKept { k: part.k()? },
             22 => Call::RefileKept { room: part.u32()? },
             32 => {

@@ -3,7 +3,7 @@ use mathlib.Core.Path.{_≡_, refl, sym, _∙_}
 use mathlib.Core.Bool.{true}
 use mathlib.Core.List.{List}
 use Prim.Native.Nat.{ℕ}
-use Rattle.refusals.specs.Refusals.{inTurn, standIn}
+use Rattle.refusals.specs.Refusals.{inTurn, inOrderOf}
 use Rattle.refusals.specs.Answers.{One}
 use Rattle.refusals.proofs.Cases.{same-case, one-case}
 use Rattle.outage.specs.declared.Log.{Log}
@@ -23,7 +23,7 @@ only-first book years log n r s p q = same-case assess-answers r s (p .0 ∙ sym
 one-first : (book : Book) (years : List Year) (log : Log) (n : ℕ) → One (FirstGives book years log n)
 one-first book years log n = one-case assess-answers (periodRowsOf book years log n) (figuresIn (yearlyOf book years log n) n)
 
-first-in-turn : (book : Book) (years : List Year) (log : Log) (n : ℕ) → standIn inTurn (periodRowsOf book years log n) ≡ true
+first-in-turn : (book : Book) (years : List Year) (log : Log) (n : ℕ) → inOrderOf inTurn (periodRowsOf book years log n) ≡ true
 first-in-turn book years log n = refl
 
 -- ---- over all of them
@@ -33,5 +33,5 @@ only-period book years log = only-first book years log periodYears
 pub one-period : (book : Book) (years : List Year) (log : Log) → One (PeriodGives book years log)
 one-period book years log = one-first book years log periodYears
 
-pub period-in-turn : (book : Book) (years : List Year) (log : Log) → standIn inTurn (periodRows book years log) ≡ true
+pub period-in-turn : (book : Book) (years : List Year) (log : Log) → inOrderOf inTurn (periodRows book years log) ≡ true
 period-in-turn book years log = first-in-turn book years log periodYears

@@ -9,7 +9,7 @@ use Rattle.refusals.specs.declared.Refusal.the-variants.{TooLarge}
 use Rattle.outage.specs.declared.Log.{Log}
 use Rattle.outage.specs.Log.{validLog}
 use Rattle.year.specs.declared.Year.{Year}
-use Rattle.year.specs.Year.{goodYearRecord}
+use Rattle.year.specs.Year.{goodYear}
 use Rattle.levels.specs.declared.Book.{Book}
 use Rattle.levels.specs.declared.levelling.Levels.{Levels}
 use Rattle.levels.specs.declared.levelling.Levels.the-variants as levels
@@ -29,8 +29,8 @@ fits-is book y log f =
     sym (and-assoc (levelFits (capLevel book y)) (levelFits (floorOf book y log)) (levelFits (assessedRevenue y)))
     ∙ ap (λ (b : Bool). b && levelFits (assessedRevenue y)) f
 
-module _ (book : Book) (y : Year) (log : Log) (b : bookHolds book (log .«regime_end») ≡ true) (v : validLog log ≡ true) (d : goodYearRecord y ≡ true) where
-  pub row-is : (l : Levels) (r : Revenue) → LevelsGives book y log l → RevenueGives y r → rowFrom l r (y .pppi) (y .within) ≡ rowOf book y log
+module _ (book : Book) (y : Year) (log : Log) (b : bookHolds book (log .«regime_end») ≡ true) (v : validLog log ≡ true) (d : goodYear y ≡ true) where
+  pub row-is : (l : Levels) (r : Revenue) → LevelsGives book y log l → RevenueGives y r → rowFrom l r (y .pppi) (y .wpa) ≡ rowOf book y log
   row-is (levels.Refused why) r g h =
       let t = last-row [] TooLarge why (not (bothFit book y log)) tt (simp (b, v, d) at (g .0)) in
       rw (fits-is book y log (not-yes (bothFit book y log) (t .0)))

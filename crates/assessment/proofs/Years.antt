@@ -12,17 +12,17 @@ use lib.Seq.{getD-take, length-take-le}
 use lib.IntN.{pos}
 use Rattle.lists.specs.Lists.{all}
 use Rattle.lists.proofs.Lists.{all-at}
-use Rattle.lists.proofs.Places.{drop-next, turned-next}
+use Rattle.lists.proofs.Places.{drop-next, replaced-next}
 use Rattle.outage.specs.declared.Log.{Log}
 use Rattle.outage.specs.Log.{logMade}
 use Rattle.year.specs.declared.Year.{Year}
-use Rattle.year.specs.Year.{goodYearRecord}
+use Rattle.year.specs.Year.{goodYear}
 use Rattle.levels.specs.declared.Book.{Book}
 use Rattle.levels.specs.Levels.{capLevel, floorOf}
 use Rattle.revenue.specs.Revenue.{assessedRevenue}
 use Rattle.balances.specs.Balance.{periodYears}
 use Rattle.assessment.specs.declared.Row.{Row}
-use Rattle.assessment.specs.Period.{numbersFrom, startsPeriod, yearsGood, firstRows, yearlyOf, yearFits}
+use Rattle.assessment.specs.Period.{numbersFrom, startsPeriod, goodPeriodYears, firstRows, yearlyOf, yearFits}
 use Rattle.assessment.specs.Steps.{goodFrom, rowOf, noRow, withRow}
 
 -- what stands for a year past the end of a list
@@ -37,7 +37,7 @@ noYear = record {
   lines = [];
   «line_count» = 0;
   exceptional = false;
-  within = pos 0;
+  wpa = pos 0;
   log = logMade [] 0 0;
 }
 
@@ -74,7 +74,7 @@ module _ {A : Type 0} (d : A) (l : List A) (n : ℕ) (fits : n ≤ length l) whe
 
 -- ---- the years from place k on
 abbrev pub goodRest : ℕ → ℕ → List Year → Bool
-goodRest number k years = all goodYearRecord (drop k years) && numbersFrom (number + k) (drop k years)
+goodRest number k years = all goodYear (drop k years) && numbersFrom (number + k) (drop k years)
 
 module _ (number k n : ℕ) (years : List Year) (d : Year) (fits : n ≤ length years) (h : k < n) where
   abbrev this : Year
@@ -83,38 +83,38 @@ module _ (number k n : ℕ) (years : List Year) (d : Year) (fits : n ≤ length 
   abbrev later : List Year
   later = drop (k + 1) (take n years)
 
-  rest-is : goodRest number k (take n years) ≡ ((goodYearRecord this && all goodYearRecord later) && (eqb (this .number) (number + k) && numbersFrom (number + (k + 1)) later))
+  rest-is : goodRest number k (take n years) ≡ ((goodYear this && all goodYear later) && (eqb (this .number) (number + k) && numbersFrom (number + (k + 1)) later))
   rest-is =
       let e : suc (number + k) ≡ number + (k + 1) = omega arith in
-      ap (λ (l : List Year). all goodYearRecord l && numbersFrom (number + k) l) (first-next d years n fits k h)
-      ∙ ap (λ (m : ℕ). (goodYearRecord this && all goodYearRecord later) && (eqb (this .number) (number + k) && numbersFrom m later)) e
+      ap (λ (l : List Year). all goodYear l && numbersFrom (number + k) l) (first-next d years n fits k h)
+      ∙ ap (λ (m : ℕ). (goodYear this && all goodYear later) && (eqb (this .number) (number + k) && numbersFrom m later)) e
 
-  pub rest-bad-year : goodYearRecord this ≡ false → goodRest number k (take n years) ≡ false
+  pub rest-bad-year : goodYear this ≡ false → goodRest number k (take n years) ≡ false
   rest-bad-year f = rest-is ∙ simp f
 
-  pub rest-bad-number : goodYearRecord this ≡ true → (this .number ≡ number + k → ⊥) → goodRest number k (take n years) ≡ false
-  rest-bad-number g f = rest-is ∙ simp (g, ne-eqb (this .number) (number + k) f) (and-false (all goodYearRecord later))
+  pub rest-bad-number : goodYear this ≡ true → (this .number ≡ number + k → ⊥) → goodRest number k (take n years) ≡ false
+  rest-bad-number g f = rest-is ∙ simp (g, ne-eqb (this .number) (number + k) f) (and-false (all goodYear later))
 
-  pub rest-next : goodYearRecord this ≡ true → this .number ≡ number + k → goodRest number k (take n years) ≡ goodRest number (k + 1) (take n years)
+  pub rest-next : goodYear this ≡ true → this .number ≡ number + k → goodRest number k (take n years) ≡ goodRest number (k + 1) (take n years)
   rest-next g f = rest-is ∙ simp (g, eq-eqb (this .number) (number + k) f)
 
 pub rest-start : (number : ℕ) (years : List Year) → goodFrom number years ≡ goodRest number 0 years
-rest-start number years = let e : number ≡ number + 0 = omega arith in ap (λ (n : ℕ). all goodYearRecord years && numbersFrom n years) e
+rest-start number years = let e : number ≡ number + 0 = omega arith in ap (λ (n : ℕ). all goodYear years && numbersFrom n years) e
 
 -- ---- one period
 period-first : (years : List Year) (n : ℕ) (d : Year) → 1 ≤ n → 1 ≤ length years
-    → yearsGood years n ≡ (all goodYearRecord (take n years) && (startsPeriod (getD years 0 d .number) && numbersFrom (getD years 0 d .number) (take n years)))
-unfolding yearsGood
+    → goodPeriodYears years n ≡ (all goodYear (take n years) && (startsPeriod (getD years 0 d .number) && numbersFrom (getD years 0 d .number) (take n years)))
+unfolding goodPeriodYears
 period-first [] n d s h = absurd (not-suc-le-zero h)
 period-first (y ∷ ys) zero d s h = absurd (not-suc-le-zero s)
 period-first (y ∷ ys) (suc n) d s h = refl
 
 module _ (years : List Year) (n : ℕ) (d : Year) (some : 1 ≤ n) (h : 1 ≤ length years) where
-  pub period-other : (getD years 0 d .number % periodYears ≡ 1 → ⊥) → yearsGood years n ≡ false
+  pub period-other : (getD years 0 d .number % periodYears ≡ 1 → ⊥) → goodPeriodYears years n ≡ false
   period-other f =
-      period-first years n d some h ∙ simp (ne-eqb (getD years 0 d .number % periodYears) 1 f) (and-false (all goodYearRecord (take n years)))
+      period-first years n d some h ∙ simp (ne-eqb (getD years 0 d .number % periodYears) 1 f) (and-false (all goodYear (take n years)))
 
-  pub period-start : getD years 0 d .number % periodYears ≡ 1 → yearsGood years n ≡ goodFrom (getD years 0 d .number) (take n years)
+  pub period-start : getD years 0 d .number % periodYears ≡ 1 → goodPeriodYears years n ≡ goodFrom (getD years 0 d .number) (take n years)
   period-start f = period-first years n d some h ∙ simp (eq-eqb (getD years 0 d .number % periodYears) 1 f)
 
 -- ---- the amounts, a year more a turn
@@ -123,17 +123,17 @@ module _ (book : Book) (years : List Year) (log : Log) where
     cell : {B : Type 0} (f : Year → B) (e : B) → set (firstRows e k (map f years)) k (f (getD years k d)) ≡ firstRows e (k + 1) (map f years)
     cell {B} f e =
         ap (set (firstRows e k (map f years)) k) (sym (map-at f years k d e (omega arith)))
-        ∙ turned-next e (map f years) (replicate periodYears e) k (omega (arith, length-map years f)) (omega arith)
+        ∙ replaced-next e (map f years) (replicate periodYears e) k (omega (arith, length-map years f)) (omega arith)
 
     pub yearly-on : yearFits book log (getD years k d) ≡ true → withRow (yearlyOf book years log k) k (rowOf book (getD years k d) log) ≡ yearlyOf book years log (k + 1)
     yearly-on f =
-        ap (withRow (yearlyOf book years log k) k) (ap (λ (b : Bool). cond b (record { fits = true; index = getD years k d .pppi; revenue = assessedRevenue (getD years k d); cap = capLevel book (getD years k d); floor = floorOf book (getD years k d) log; within = getD years k d .within }) noRow) f)
+        ap (withRow (yearlyOf book years log k) k) (ap (λ (b : Bool). cond b (record { fits = true; index = getD years k d .pppi; revenue = assessedRevenue (getD years k d); cap = capLevel book (getD years k d); floor = floorOf book (getD years k d) log; wpa = getD years k d .wpa }) noRow) f)
         ∙ cc (
           cell (λ (y : Year). y .pppi) 0,
           cell assessedRevenue (pos 0),
           cell (capLevel book) (pos 0),
           cell (λ (y : Year). floorOf book y log) (pos 0),
-          cell (λ (y : Year). y .within) (pos 0),
+          cell (λ (y : Year). y .wpa) (pos 0),
         )
 
   -- ---- whether the first n years fit, by those to come
@@ -146,6 +146,6 @@ module _ (book : Book) (years : List Year) (log : Log) where
   pub row-says : (y : Year) (r : Row) → r ≡ rowOf book y log → yearFits book log y ≡ r .fits
   row-says y r e = by (yearFits book log y) ∙ sym (ap (λ (x : Row). x .fits) e)
     where
-      by : (b : Bool) → b ≡ (cond b (record { fits = true; index = y .pppi; revenue = assessedRevenue y; cap = capLevel book y; floor = floorOf book y log; within = y .within }) noRow) .fits
+      by : (b : Bool) → b ≡ (cond b (record { fits = true; index = y .pppi; revenue = assessedRevenue y; cap = capLevel book y; floor = floorOf book y log; wpa = y .wpa }) noRow) .fits
       by true = refl
       by false = refl

@@ -8,12 +8,12 @@ use lib.ListN.{take, drop, replicate}
 use lib.IntN.{pos}
 use lib.Signed.{ltZ}
 use Rattle.lists.specs.Lists.{all}
-use Rattle.refusals.specs.Refusals.{Rows, accepted, lowest}
+use Rattle.refusals.specs.Refusals.{Rows, accepted, firstApplicable}
 use Rattle.refusals.specs.declared.Refusal.the-variants.{BadBook, BrokenLog, BadYear, TooLarge, FloorAboveCap}
 use Rattle.outage.specs.declared.Log.{Log}
 use Rattle.outage.specs.Log.{validLog}
 use Rattle.year.specs.declared.Year.{Year}
-use Rattle.year.specs.Year.{goodYearRecord}
+use Rattle.year.specs.Year.{goodYear}
 use Rattle.levels.specs.declared.Book.{Book}
 use Rattle.levels.specs.Book.{bookHolds}
 use Rattle.levels.specs.Levels.{capLevel, floorOf, levelFits}
@@ -37,8 +37,8 @@ onePeriod [] = true
 onePeriod (y ∷ ys) = startsPeriod (y .number) && numbersFrom (y .number) (y ∷ ys)
 
 -- the first n years are in range and those of one period
-unfoldable pub yearsGood : List Year → ℕ → Bool
-yearsGood years n = all goodYearRecord (take n years) && onePeriod (take n years)
+unfoldable pub goodPeriodYears : List Year → ℕ → Bool
+goodPeriodYears years n = all goodYear (take n years) && onePeriod (take n years)
 
 -- ---- the yearly amounts
 -- the first n of a row, and nothing in the others of a period
@@ -52,7 +52,7 @@ yearlyOf book years log n = record {
   revenue = firstRows (pos 0) n (map assessedRevenue years);
   cap = firstRows (pos 0) n (map (capLevel book) years);
   floor = firstRows (pos 0) n (map (λ (y : Year). floorOf book y log) years);
-  within = firstRows (pos 0) n (map (λ (y : Year). y .within) years);
+  wpa = firstRows (pos 0) n (map (λ (y : Year). y .wpa) years);
 }
 
 -- "a level or assessed revenue above 10^9 in magnitude"
@@ -64,7 +64,7 @@ abbrev pub periodRowsOf : Book → List Year → Log → ℕ → Rows
 periodRowsOf book years log n =
     (BadBook, not (bookHolds book (log .«regime_end»)))
     ∷ (BrokenLog, not (validLog log))
-    ∷ (BadYear, not (yearsGood years n))
+    ∷ (BadYear, not (goodPeriodYears years n))
     ∷ (TooLarge, not (all (yearFits book log) (take n years) && balancesWithin (yearlyOf book years log n) n))
     ∷ (FloorAboveCap, ltZ (CLN (yearlyOf book years log n) n) (FLN (yearlyOf book years log n) n))
     ∷ []
@@ -81,4 +81,4 @@ periodGiven book years log = periodGivenOf book years log periodYears
 
 -- what `assess_period` promises of its result
 abbrev pub PeriodGives : Book → List Year → Log → Assessment → Type 0
-PeriodGives book years log r = (assessNumber r ≡ lowest (periodRows book years log)) × (assessFigures r ≡ periodGiven book years log)
+PeriodGives book years log r = (assessNumber r ≡ firstApplicable (periodRows book years log)) × (assessFigures r ≡ periodGiven book years log)

@@ -6,10 +6,10 @@ use Prim.Native.Nat.{ℕ}
 use lib.ListN.{replicate, set}
 use lib.IntN.{ℤ, pos}
 use Rattle.lists.specs.Lists.{all}
-use Rattle.refusals.specs.Refusals.{lowest}
+use Rattle.refusals.specs.Refusals.{firstApplicable}
 use Rattle.outage.specs.declared.Log.{Log}
 use Rattle.year.specs.declared.Year.{Year}
-use Rattle.year.specs.Year.{goodYearRecord}
+use Rattle.year.specs.Year.{goodYear}
 use Rattle.levels.specs.declared.Book.{Book}
 use Rattle.levels.specs.declared.levelling.Levels.{Levels}
 use Rattle.levels.specs.declared.levelling.Levels.the-variants as levels
@@ -26,26 +26,26 @@ use Rattle.assessment.specs.Period.{numbersFrom, yearFits, periodRowsOf,
 
 -- what `assess_first` promises of its result
 abbrev pub FirstGives : Book → List Year → Log → ℕ → Assessment → Type 0
-FirstGives book years log n r = (assessNumber r ≡ lowest (periodRowsOf book years log n)) × (assessFigures r ≡ periodGivenOf book years log n)
+FirstGives book years log n r = (assessNumber r ≡ firstApplicable (periodRowsOf book years log n)) × (assessFigures r ≡ periodGivenOf book years log n)
 
 -- ---- the same year by year
 -- the years are in range and follow one another from a number on
 abbrev pub goodFrom : ℕ → List Year → Bool
-goodFrom number years = all goodYearRecord years && numbersFrom number years
+goodFrom number years = all goodYear years && numbersFrom number years
 
 abbrev pub noRow : Row
-noRow = record { fits = false; index = 0; revenue = pos 0; cap = pos 0; floor = pos 0; within = pos 0 }
+noRow = record { fits = false; index = 0; revenue = pos 0; cap = pos 0; floor = pos 0; wpa = pos 0 }
 
 -- from the levels' answer and the revenue's
 abbrev pub rowFrom : Levels → Revenue → ℕ → ℤ → Row
-rowFrom (levels.Refused why) assessed index within = noRow
-rowFrom (levels.Pounds cap floor) (revenue.Refused why) index within = noRow
-rowFrom (levels.Pounds cap floor) (revenue.Pounds z) index within = record { fits = true; index = index; revenue = z; cap = cap; floor = floor; within = within }
+rowFrom (levels.Refused why) assessed index wpa = noRow
+rowFrom (levels.Pounds cap floor) (revenue.Refused why) index wpa = noRow
+rowFrom (levels.Pounds cap floor) (revenue.Pounds z) index wpa = record { fits = true; index = index; revenue = z; cap = cap; floor = floor; wpa = wpa }
 
 abbrev pub rowOf : Book → Year → Log → Row
 rowOf book y log =
     cond (yearFits book log y)
-    (record { fits = true; index = y .pppi; revenue = assessedRevenue y; cap = capLevel book y; floor = floorOf book y log; within = y .within })
+    (record { fits = true; index = y .pppi; revenue = assessedRevenue y; cap = capLevel book y; floor = floorOf book y log; wpa = y .wpa })
     noRow
 
 abbrev pub noAmounts : Yearly
@@ -54,7 +54,7 @@ noAmounts = record {
   revenue = replicate periodYears (pos 0);
   cap = replicate periodYears (pos 0);
   floor = replicate periodYears (pos 0);
-  within = replicate periodYears (pos 0);
+  wpa = replicate periodYears (pos 0);
 }
 
 abbrev pub withRow : Yearly → ℕ → Row → Yearly
@@ -63,5 +63,5 @@ withRow yearly k row = record {
   revenue = set (yearly .revenue) k (row .revenue);
   cap = set (yearly .cap) k (row .cap);
   floor = set (yearly .floor) k (row .floor);
-  within = set (yearly .within) k (row .within);
+  wpa = set (yearly .wpa) k (row .wpa);
 }

@@ -22,9 +22,9 @@ ghost use lib.ListN.{take};
 ghost use Rattle.lists.specs.Lists.{all};
 ghost use Rattle.levels.specs.Book.{bookHolds};
 ghost use Rattle.outage.specs.Log.{validLog};
-ghost use Rattle.year.specs.Year.{goodYearRecord};
+ghost use Rattle.year.specs.Year.{goodYear};
 ghost use Rattle.balances.specs.Balance.{goodCount, periodYears};
-ghost use Rattle.assessment.specs.Period.{yearFits, yearlyOf, yearsGood, PeriodGives};
+ghost use Rattle.assessment.specs.Period.{yearFits, yearlyOf, goodPeriodYears, PeriodGives};
 ghost use Rattle.assessment.specs.Steps.{goodFrom, noAmounts, noRow, rowFrom, withRow, FirstGives};
 
 // What one year brings, and whether its levels and revenue fit: zeros where they do not.
@@ -34,7 +34,7 @@ struct Row {
     revenue: i64,
     cap: i64,
     floor: i64,
-    within: i64,
+    wpa: i64,
 }
 
 // What the years bring, and whether all of it fits.
@@ -64,9 +64,9 @@ fn good_from(years: [Year; Yearly::YEARS], n: usize, number: u8) -> bool
 }
 
 // The first n years are in range, and those of one assessment period, in order.
-fn good_years(years: [Year; Yearly::YEARS], n: usize) -> bool
+fn good_period_years(years: [Year; Yearly::YEARS], n: usize) -> bool
     requires { ⌜ (1 ≤ n) × (n ≤ periodYears) ⌝ }
-    ensures { λ r. ⌜ r ≡ yearsGood years n ⌝ }
+    ensures { λ r. ⌜ r ≡ goodPeriodYears years n ⌝ }
 {
     let first = years[0];
     let number = first.number;
@@ -77,8 +77,8 @@ fn good_years(years: [Year; Yearly::YEARS], n: usize) -> bool
 }
 
 // One year's amounts, from its levels and its assessed revenue.
-fn row_of(found: Levels, assessed: Revenue, index: u32, within: i64) -> Row
-    ensures { λ r. ⌜ r ≡ rowFrom found assessed index within ⌝ }
+fn row_of(found: Levels, assessed: Revenue, index: u32, wpa: i64) -> Row
+    ensures { λ r. ⌜ r ≡ rowFrom found assessed index wpa ⌝ }
 {
     let Levels::Pounds { cap, floor } = found else {
         return no_row();
@@ -92,7 +92,7 @@ fn row_of(found: Levels, assessed: Revenue, index: u32, within: i64) -> Row
         revenue,
         cap,
         floor,
-        within,
+        wpa,
     }
 }
 
@@ -105,7 +105,7 @@ fn no_row() -> Row
         revenue: 0,
         cap: 0,
         floor: 0,
-        within: 0,
+        wpa: 0,
     }
 }
 
@@ -117,13 +117,13 @@ fn with_row(yearly: Yearly, k: usize, row: Row) -> Yearly
     let revenue = row.revenue;
     let cap = row.cap;
     let floor = row.floor;
-    let paid = row.within;
+    let paid = row.wpa;
     let mut next = yearly;
     next.index[k] = row.index;
     next.revenue[k] = revenue;
     next.cap[k] = cap;
     next.floor[k] = floor;
-    next.within[k] = paid;
+    next.wpa[k] = paid;
     next
 }
 
@@ -135,7 +135,7 @@ fn no_amounts() -> Yearly
         revenue: [0; Yearly::YEARS],
         cap: [0; Yearly::YEARS],
         floor: [0; Yearly::YEARS],
-        within: [0; Yearly::YEARS],
+        wpa: [0; Yearly::YEARS],
     }
 }
 
@@ -145,7 +145,7 @@ fn amounts_of(book: Book, years: [Year; Yearly::YEARS], log: Log, n: usize) -> F
         (n ≤ periodYears)
         × (bookHolds book (log .«regime_end») ≡ true)
         × (validLog log ≡ true)
-        × (all goodYearRecord (take n years) ≡ true)
+        × (all goodYear (take n years) ≡ true)
         ⌝ }
     ensures { λ r. ⌜
         (r .fits ≡ all (yearFits book log) (take n years))
@@ -157,7 +157,7 @@ fn amounts_of(book: Book, years: [Year; Yearly::YEARS], log: Log, n: usize) -> F
     while k < n {
         let y = years[k];
         let found = levels_of(book, y, log);
-        let row = row_of(found, revenue_of(y), y.pppi, y.within);
+        let row = row_of(found, revenue_of(y), y.pppi, y.wpa);
         if !row.fits {
             return Filled {
                 fits: false,
@@ -179,7 +179,7 @@ fn assess_first(book: Book, years: [Year; Yearly::YEARS], log: Log, n: usize) ->
     if let Availability::Refused(why) = available {
         return Assessment::Refused(why);
     }
-    if !good_years(years, n) {
+    if !good_period_years(years, n) {
         return Assessment::Refused(Refusal::BadYear);
     }
     let amounts = amounts_of(book, years, log, n);

@@ -7,7 +7,7 @@ use native.Mathlib.Omega.{arith}
 use lib.Dec.{eqb}
 use lib.IntN.{ℤ, natAbs, _-ℤ_}
 use lib.Signed.{ltZ}
-use Rattle.refusals.specs.Refusals.{Rows, lowest, accepted}
+use Rattle.refusals.specs.Refusals.{Rows, firstApplicable, accepted}
 use Rattle.refusals.specs.declared.Refusal.the-variants.{TooLarge, FloorAboveCap}
 use Rattle.balances.specs.declared.carrying.Balance.{Balance}
 use Rattle.balances.specs.declared.carrying.Balance.the-variants.{Is, Over}
@@ -15,68 +15,68 @@ use Rattle.balances.specs.declared.assessing.Yearly.{Yearly}
 use Rattle.balances.specs.declared.assessing.Assessment.{Assessment}
 use Rattle.balances.specs.Balance.{balanceAfter, mostBalance, laterWithin, goodAmounts}
 use Rattle.balances.specs.Steps.{balanceOf, Bounded, foundRows, foundFigures}
-use Rattle.balances.specs.Assessment.{goodYearly, ARN, CLN, FLN, WPAN, balancesWithin, heldBetween, figuresOf, figuresIn, noFigures, assessRowsOf, assessGivenOf, assessNumber, assessFigures, YearsGives}
+use Rattle.balances.specs.Assessment.{assessable, ARN, CLN, FLN, WPAN, balancesWithin, heldBetween, figuresOf, figuresIn, noFigures, assessRowsOf, assessGivenOf, assessNumber, assessFigures, YearsGives}
 use Rattle.balances.proofs.Years.{years-small}
 
 -- ---- four balances, each with its test
-abbrev kept : Bool → ℤ → Balance
-kept t z = cond t (Is z) Over
+abbrev limited : Bool → ℤ → Balance
+limited t z = cond t (Is z) Over
 
-kept-bounded : (t : Bool) (z : ℤ) → (t ≡ true → natAbs z ≤ mostBalance) → Bounded (kept t z)
-kept-bounded true z h = h refl
-kept-bounded false z h = omega arith
+limited-bounded : (t : Bool) (z : ℤ) → (t ≡ true → natAbs z ≤ mostBalance) → Bounded (limited t z)
+limited-bounded true z h = h refl
+limited-bounded false z h = omega arith
 
 -- the rows that are left once every index and amount is in range
 abbrev rowsLeft : Bool → ℤ → ℤ → Rows
 rowsLeft t cap floor = (TooLarge, not t) ∷ (FloorAboveCap, ltZ cap floor) ∷ []
 
-kept-rows : (s t u v : Bool) (a c f w : ℤ)
-    → lowest (foundRows (kept s a) (kept t c) (kept u f) (kept v w)) ≡ lowest (rowsLeft (s && (t && (u && v))) c f)
-kept-rows true true true true a c f w = refl
-kept-rows true true true false a c f w = refl
-kept-rows true true false v a c f w = refl
-kept-rows true false u v a c f w = refl
-kept-rows false t u v a c f w = refl
+limited-rows : (s t u v : Bool) (a c f w : ℤ)
+    → firstApplicable (foundRows (limited s a) (limited t c) (limited u f) (limited v w)) ≡ firstApplicable (rowsLeft (s && (t && (u && v))) c f)
+limited-rows true true true true a c f w = refl
+limited-rows true true true false a c f w = refl
+limited-rows true true false v a c f w = refl
+limited-rows true false u v a c f w = refl
+limited-rows false t u v a c f w = refl
 
-kept-figures : (s t u v : Bool) (a c f w : ℤ)
-    → foundFigures (kept s a) (kept t c) (kept u f) (kept v w)
+limited-figures : (s t u v : Bool) (a c f w : ℤ)
+    → foundFigures (limited s a) (limited t c) (limited u f) (limited v w)
     ≡ cond (accepted (rowsLeft (s && (t && (u && v))) c f)) (figuresOf a c f w) noFigures
-kept-figures true true true true a c f w = refl
-kept-figures true true true false a c f w = refl
-kept-figures true true false v a c f w = refl
-kept-figures true false u v a c f w = refl
-kept-figures false t u v a c f w = refl
+limited-figures true true true true a c f w = refl
+limited-figures true true true false a c f w = refl
+limited-figures true true false v a c f w = refl
+limited-figures true false u v a c f w = refl
+limited-figures false t u v a c f w = refl
 
 -- ---- the call's rows, from its balances, over n years
 pub balance-bounded : (index : List ℕ) (amounts : List ℤ) (n : ℕ) → 1 ≤ n → goodAmounts index amounts n ≡ true → Bounded (balanceOf index amounts n)
 balance-bounded index amounts n some good =
-    kept-bounded (laterWithin index amounts 0 (n - 1)) (balanceAfter index amounts (n - 1)) (years-small index amounts n some good)
+    limited-bounded (laterWithin index amounts 0 (n - 1)) (balanceAfter index amounts (n - 1)) (years-small index amounts n some good)
 
 past-nine : (t : Bool) (n : ℕ) → t ≡ true → cond (not t) 9 n ≡ n
 past-nine t n e = simp e
 
-module _ (y : Yearly) (n : ℕ) (good : goodYearly y n ≡ true) where
-  abbrev of : List ℤ → Balance
-  of amounts = balanceOf (y .index) amounts n
+module _ (y : Yearly) (n : ℕ) (good : assessable y n ≡ true) where
+  abbrev balanceFor : List ℤ → Balance
+  balanceFor amounts = balanceOf (y .index) amounts n
 
   abbrev test : List ℤ → Bool
   test amounts = laterWithin (y .index) amounts 0 (n - 1)
 
-  rows-left : lowest (assessRowsOf y n) ≡ lowest (rowsLeft (balancesWithin y n) (CLN y n) (FLN y n))
-  rows-left = past-nine (goodYearly y n) (lowest (rowsLeft (balancesWithin y n) (CLN y n) (FLN y n))) good
+  rows-left : firstApplicable (assessRowsOf y n) ≡ firstApplicable (rowsLeft (balancesWithin y n) (CLN y n) (FLN y n))
+  rows-left = past-nine (assessable y n) (firstApplicable (rowsLeft (balancesWithin y n) (CLN y n) (FLN y n))) good
 
-  found-number : lowest (foundRows (of (y .revenue)) (of (y .cap)) (of (y .floor)) (of (y .within))) ≡ lowest (assessRowsOf y n)
+  found-number : firstApplicable (foundRows (balanceFor (y .revenue)) (balanceFor (y .cap)) (balanceFor (y .floor)) (balanceFor (y .wpa))) ≡ firstApplicable (assessRowsOf y n)
   found-number =
-      kept-rows (test (y .revenue)) (test (y .cap)) (test (y .floor)) (test (y .within)) (ARN y n) (CLN y n) (FLN y n) (WPAN y n) ∙ sym rows-left
+      limited-rows (test (y .revenue)) (test (y .cap)) (test (y .floor)) (test (y .wpa)) (ARN y n) (CLN y n) (FLN y n) (WPAN y n) ∙ sym rows-left
 
-  found-given : foundFigures (of (y .revenue)) (of (y .cap)) (of (y .floor)) (of (y .within)) ≡ assessGivenOf y n
+  found-given : foundFigures (balanceFor (y .revenue)) (balanceFor (y .cap)) (balanceFor (y .floor)) (balanceFor (y .wpa)) ≡ assessGivenOf y n
   found-given =
-      kept-figures (test (y .revenue)) (test (y .cap)) (test (y .floor)) (test (y .within)) (ARN y n) (CLN y n) (FLN y n) (WPAN y n)
+      limited-figures (test (y .revenue)) (test (y .cap)) (test (y .floor)) (test (y .wpa)) (ARN y n) (CLN y n) (FLN y n) (WPAN y n)
       ∙ ap (λ (k : ℕ). cond (eqb k 0) (figuresIn y n) noFigures) (sym rows-left)
 
   -- what four balances give, each of its amounts, is what the call gives
-  pub found-is : (r : Assessment) (a c f w : Balance) → a ≡ of (y .revenue) → c ≡ of (y .cap) → f ≡ of (y .floor) → w ≡ of (y .within)
-      → (assessNumber r ≡ lowest (foundRows a c f w)) × (assessFigures r ≡ foundFigures a c f w)
+  pub found-is : (r : Assessment) (a c f w : Balance) → a ≡ balanceFor (y .revenue) → c ≡ balanceFor (y .cap) → f ≡ balanceFor (y .floor) → w ≡ balanceFor (y .wpa)
+      → (assessNumber r ≡ firstApplicable (foundRows a c f w)) × (assessFigures r ≡ foundFigures a c f w)
       → YearsGives y n r
   found-is r a c f w ea ec ef ew g = let h = rw (ea, ec, ef, ew) at g in (h .0 ∙ found-number, h .1 ∙ found-given)
 

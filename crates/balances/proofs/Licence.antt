@@ -42,8 +42,8 @@ above a b = by (ltZ (pos 0) (a -ℤ b)) (ltZ b a) refl refl
     by false true e f = absurd (omega (arith, from-ge (pos 0) (a -ℤ b) e, from-lt b a f, diff a b))
     by false false e f = refl
 
-turned : (a b : ℤ) → a -ℤ b ≡ negℤ (b -ℤ a)
-turned a b = to-eq (a -ℤ b) (negℤ (b -ℤ a)) (omega (arith, diff a b, diff b a, neg-over (b -ℤ a), neg-under (b -ℤ a)))
+swapped : (a b : ℤ) → a -ℤ b ≡ negℤ (b -ℤ a)
+swapped a b = to-eq (a -ℤ b) (negℤ (b -ℤ a)) (omega (arith, diff a b, diff b a, neg-over (b -ℤ a), neg-under (b -ℤ a)))
 
 nothing-less : (a w : ℤ) → a -ℤ a -ℤ w ≡ negℤ w
 nothing-less a w = to-eq (a -ℤ a -ℤ w) (negℤ w) (omega (arith, diff (a -ℤ a) w, diff a a, neg-over w, neg-under w))
@@ -70,7 +70,7 @@ module _ (arn cln fln wpan : ℤ) where
   unfolding byTests
   each-case true true s m h = absurd (omega (arith, from-lt arn fln s, from-lt cln arn m, from-ge cln fln h))
   each-case true false s m h = rw (some (RRAF fln arn) (above fln arn ∙ s))
-  each-case false true s m h = rw (some (RRAC arn cln) (above arn cln ∙ m)) (ap (λ (z : ℤ). z -ℤ wpan) (turned cln arn))
+  each-case false true s m h = rw (some (RRAC arn cln) (above arn cln ∙ m)) (ap (λ (z : ℤ). z -ℤ wpan) (swapped cln arn))
   each-case false false s m h = nothing-less arn wpan ∙ sym (some-or-none wpan)
 
   -- where the floor balance is not above the cap balance, the adjustment is SC3 4's by its four cases

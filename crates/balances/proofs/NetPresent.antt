@@ -16,7 +16,7 @@ use Rattle.money.proofs.Nearest.{abs-times, round-near}
 use Rattle.balances.specs.declared.assessing.Yearly.{Yearly}
 use Rattle.balances.specs.Balance.{carryOf, balanceAfter, goodAmounts}
 use Rattle.balances.specs.NetPresent.{growthOver, growthUnder, productLater, upliftOver, upliftUnder, commonDivisor, UF, sumTo, netPresent, exactBalance, sumLater, roundings, Near, FiveUplifts, NearLicence}
-use Rattle.balances.specs.Assessment.{goodYearly}
+use Rattle.balances.specs.Assessment.{assessable}
 use Rattle.balances.proofs.Ranges.{index-good, index-low, yearly-says}
 
 -- ---- products over the later years
@@ -198,7 +198,7 @@ module _ (index : List ℕ) (amounts : List ℤ) where
 
 -- ---- the four balances of an assessment: SC3 9, 11, 12, 13
 -- where the years are in range, each is near its net present value
-pub assessed-near : (y : Yearly) (n : ℕ) → goodYearly y n ≡ true → NearLicence y n
+pub assessed-near : (y : Yearly) (n : ℕ) → assessable y n ≡ true → NearLicence y n
 assessed-near y n good =
     let says = yearly-says y n good in
     let le : n - 1 ≤ n = omega arith in
@@ -206,5 +206,5 @@ assessed-near y n good =
       revenue = good-near (y .index) (y .revenue) (n - 1) n (says .revenue) le;
       cap = good-near (y .index) (y .cap) (n - 1) n (says .cap) le;
       floor = good-near (y .index) (y .floor) (n - 1) n (says .floor) le;
-      within = good-near (y .index) (y .within) (n - 1) n (says .within) le;
+      wpa = good-near (y .index) (y .wpa) (n - 1) n (says .wpa) le;
     }

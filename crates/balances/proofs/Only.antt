@@ -3,7 +3,7 @@ use mathlib.Core.Path.{_≡_, refl, sym, _∙_}
 use mathlib.Core.Logic.{_⊎_, inl, inr}
 use mathlib.Core.Bool.{true}
 use Prim.Native.Nat.{ℕ}
-use Rattle.refusals.specs.Refusals.{inTurn, standIn}
+use Rattle.refusals.specs.Refusals.{inTurn, inOrderOf}
 use Rattle.refusals.specs.Answers.{One}
 use Rattle.refusals.proofs.Cases.{Refusing, Answers, same-case, one-case}
 use Rattle.balances.specs.declared.assessing.Yearly.{Yearly}
@@ -32,7 +32,7 @@ only-years y n r s p q = same-case assess-answers r s (p .0 ∙ sym (q .0)) (p .
 pub one-years : (y : Yearly) (n : ℕ) → One (YearsGives y n)
 one-years y n = one-case assess-answers (assessRowsOf y n) (figuresIn y n)
 
-pub years-in-turn : (y : Yearly) (n : ℕ) → standIn inTurn (assessRowsOf y n) ≡ true
+pub years-in-turn : (y : Yearly) (n : ℕ) → inOrderOf inTurn (assessRowsOf y n) ≡ true
 years-in-turn y n = refl
 
 -- ---- over the years of a period
@@ -42,5 +42,5 @@ only-assess y = only-years y periodYears
 pub one-assess : (y : Yearly) → One (AssessGives y)
 one-assess y = one-years y periodYears
 
-pub assess-in-turn : (y : Yearly) → standIn inTurn (assessRows y) ≡ true
+pub assess-in-turn : (y : Yearly) → inOrderOf inTurn (assessRows y) ≡ true
 assess-in-turn y = years-in-turn y periodYears

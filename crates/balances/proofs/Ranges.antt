@@ -13,8 +13,8 @@ use lib.Signed.{nonNeg}
 use borrow.Author.Tests.{leb-true}
 use Rattle.lists.proofs.Tests.{and-left, and-right}
 use Rattle.balances.specs.declared.assessing.Yearly.{Yearly}
-use Rattle.balances.specs.Balance.{periodYears, goodCount, goodIndex, goodAmount, goodAmounts}
-use Rattle.balances.specs.Assessment.{notNegative, goodYearly}
+use Rattle.balances.specs.Balance.{periodYears, goodCount, goodIndex, goodYearlyAmount, goodAmounts}
+use Rattle.balances.specs.Assessment.{notNegative, assessable}
 
 -- ---- indices and amounts
 module _ (index : List ℕ) (amounts : List ℤ) where
@@ -24,7 +24,7 @@ module _ (index : List ℕ) (amounts : List ℤ) where
 
   -- the last year's test, and the others'
   good-last : (n : ℕ) → (n ≡ 0 → ⊥)
-      → goodAmounts index amounts n ≡ ((goodIndex (getD index (n - 1) 0) && goodAmount (getD amounts (n - 1) (pos 0))) && goodAmounts index amounts (n - 1))
+      → goodAmounts index amounts n ≡ ((goodIndex (getD index (n - 1) 0) && goodYearlyAmount (getD amounts (n - 1) (pos 0))) && goodAmounts index amounts (n - 1))
   unfolding goodAmounts
   good-last zero f = absurd (f refl)
   good-last (suc n) f = let e : suc n - 1 ≡ n = omega arith in rw e
@@ -33,18 +33,18 @@ module _ (index : List ℕ) (amounts : List ℤ) where
     pub bad-index : goodIndex (getD index (n - 1) 0) ≡ false → false ≡ goodAmounts index amounts n
     bad-index i = sym (good-last n some ∙ simp i)
 
-    pub bad-amount : goodIndex (getD index (n - 1) 0) ≡ true → goodAmount (getD amounts (n - 1) (pos 0)) ≡ false → false ≡ goodAmounts index amounts n
+    pub bad-amount : goodIndex (getD index (n - 1) 0) ≡ true → goodYearlyAmount (getD amounts (n - 1) (pos 0)) ≡ false → false ≡ goodAmounts index amounts n
     bad-amount i a = sym (good-last n some ∙ simp (i, a))
 
-    pub good-on : goodIndex (getD index (n - 1) 0) ≡ true → goodAmount (getD amounts (n - 1) (pos 0)) ≡ true → goodAmounts index amounts (n - 1) ≡ goodAmounts index amounts n
+    pub good-on : goodIndex (getD index (n - 1) 0) ≡ true → goodYearlyAmount (getD amounts (n - 1) (pos 0)) ≡ true → goodAmounts index amounts (n - 1) ≡ goodAmounts index amounts n
     good-on i a = sym (good-last n some ∙ simp (i, a))
 
   -- each year's test
-  good-at : (n k : ℕ) → goodAmounts index amounts n ≡ true → k < n → (goodIndex (getD index k 0) && goodAmount (getD amounts k (pos 0))) ≡ true
+  good-at : (n k : ℕ) → goodAmounts index amounts n ≡ true → k < n → (goodIndex (getD index k 0) && goodYearlyAmount (getD amounts k (pos 0))) ≡ true
   unfolding goodAmounts
   good-at zero k e h = absurd (not-suc-le-zero h)
   good-at (suc m) k e h =
-      let here : Bool = goodIndex (getD index m 0) && goodAmount (getD amounts m (pos 0)) in
+      let here : Bool = goodIndex (getD index m 0) && goodYearlyAmount (getD amounts m (pos 0)) in
       ⊎-elim
       (λ (q : k ≡ m). rw q (and-left here (goodAmounts index amounts m) e))
       (λ (lt : k < m). good-at m k (and-right here (goodAmounts index amounts m) e) lt)
@@ -52,10 +52,10 @@ module _ (index : List ℕ) (amounts : List ℤ) where
 
   module _ (n : ℕ) (good : goodAmounts index amounts n ≡ true) (k : ℕ) (h : k < n) where
     pub index-good : goodIndex (getD index k 0) ≡ true
-    index-good = and-left (goodIndex (getD index k 0)) (goodAmount (getD amounts k (pos 0))) (good-at n k good h)
+    index-good = and-left (goodIndex (getD index k 0)) (goodYearlyAmount (getD amounts k (pos 0))) (good-at n k good h)
 
     pub amount-small : natAbs (getD amounts k (pos 0)) ≤ 1000000000
-    amount-small = leb-true (natAbs (getD amounts k (pos 0))) 1000000000 (and-right (goodIndex (getD index k 0)) (goodAmount (getD amounts k (pos 0))) (good-at n k good h))
+    amount-small = leb-true (natAbs (getD amounts k (pos 0))) 1000000000 (and-right (goodIndex (getD index k 0)) (goodYearlyAmount (getD amounts k (pos 0))) (good-at n k good h))
 
 -- what a good index says
 pub index-low : (i : ℕ) → goodIndex i ≡ true → 5000 ≤ i
@@ -99,16 +99,16 @@ pub record YearlySays (y : Yearly) (n : ℕ) : Type 0 where
   pub revenue : goodAmounts (y .index) (y .revenue) n ≡ true
   pub cap : goodAmounts (y .index) (y .cap) n ≡ true
   pub floor : goodAmounts (y .index) (y .floor) n ≡ true
-  pub within : goodAmounts (y .index) (y .within) n ≡ true
+  pub wpa : goodAmounts (y .index) (y .wpa) n ≡ true
 
-pub yearly-says : (y : Yearly) (n : ℕ) → goodYearly y n ≡ true → YearlySays y n
+pub yearly-says : (y : Yearly) (n : ℕ) → assessable y n ≡ true → YearlySays y n
 yearly-says y n good =
     let a = goodAmounts (y .index) (y .revenue) n in
     let b = goodAmounts (y .index) (y .cap) n in
     let c = notNegative (y .cap) n in
     let d = goodAmounts (y .index) (y .floor) n in
     let e = notNegative (y .floor) n in
-    let f = goodAmounts (y .index) (y .within) n in
+    let f = goodAmounts (y .index) (y .wpa) n in
     let h = and-right (goodCount n) (a && (b && (c && (d && (e && f))))) good in
     let i = and-right a (b && (c && (d && (e && f)))) h in
     let j = and-right c (d && (e && f)) (and-right b (c && (d && (e && f))) i) in
@@ -117,5 +117,5 @@ yearly-says y n good =
       revenue = and-left a (b && (c && (d && (e && f)))) h;
       cap = and-left b (c && (d && (e && f))) i;
       floor = and-left d (e && f) j;
-      within = and-right e f (and-right d (e && f) j);
+      wpa = and-right e f (and-right d (e && f) j);
     }

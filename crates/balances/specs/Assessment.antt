@@ -7,7 +7,7 @@ use lib.Dec.{eqb}
 use lib.ListN.{getD}
 use lib.IntN.{ℤ, pos, negℤ, natAbs, _-ℤ_}
 use lib.Signed.{ltZ, nonNeg}
-use Rattle.refusals.specs.Refusals.{Rows, accepted, numberOf, lowest}
+use Rattle.refusals.specs.Refusals.{Rows, accepted, refusalNumber, firstApplicable}
 use Rattle.refusals.specs.declared.Refusal.the-variants.{BadYear, TooLarge, FloorAboveCap}
 use Rattle.balances.specs.declared.assessing.Yearly.{Yearly}
 use Rattle.balances.specs.declared.assessing.Figures.{Figures}
@@ -25,11 +25,11 @@ goodRows y n =
     goodAmounts (y .index) (y .revenue) n
     && (goodAmounts (y .index) (y .cap) n
     && (notNegative (y .cap) n
-    && (goodAmounts (y .index) (y .floor) n && (notNegative (y .floor) n && goodAmounts (y .index) (y .within) n))))
+    && (goodAmounts (y .index) (y .floor) n && (notNegative (y .floor) n && goodAmounts (y .index) (y .wpa) n))))
 
 -- and n is one to five
-abbrev pub goodYearly : Yearly → ℕ → Bool
-goodYearly y n = goodCount n && goodRows y n
+abbrev pub assessable : Yearly → ℕ → Bool
+assessable y n = goodCount n && goodRows y n
 
 -- ---- "Four balances: revenue A, cap C, floor F, within-period adjustments W", over n years (SC3 9, 11, 12, 13)
 abbrev pub ARN : Yearly → ℕ → ℤ
@@ -42,13 +42,13 @@ abbrev pub FLN : Yearly → ℕ → ℤ
 FLN y n = balanceAfter (y .index) (y .floor) (n - 1)
 
 abbrev pub WPAN : Yearly → ℕ → ℤ
-WPAN y n = balanceAfter (y .index) (y .within) (n - 1)
+WPAN y n = balanceAfter (y .index) (y .wpa) (n - 1)
 
 -- "balances at most 10^10 in magnitude after each year"
 abbrev pub balancesWithin : Yearly → ℕ → Bool
 balancesWithin y n =
     laterWithin (y .index) (y .revenue) 0 (n - 1)
-    && (laterWithin (y .index) (y .cap) 0 (n - 1) && (laterWithin (y .index) (y .floor) 0 (n - 1) && laterWithin (y .index) (y .within) 0 (n - 1)))
+    && (laterWithin (y .index) (y .cap) 0 (n - 1) && (laterWithin (y .index) (y .floor) 0 (n - 1) && laterWithin (y .index) (y .wpa) 0 (n - 1)))
 
 -- ---- "With T = A held between F and C, the adjustment is T - A - W."
 unfoldable pub heldBetween : ℤ → ℤ → ℤ → ℤ
@@ -59,7 +59,7 @@ figuresOf revenue cap floor paid = record {
   revenue = revenue;
   cap = cap;
   floor = floor;
-  within = paid;
+  wpa = paid;
   held = heldBetween revenue floor cap;
   adjustment = heldBetween revenue floor cap -ℤ revenue -ℤ paid;
 }
@@ -69,11 +69,11 @@ abbrev pub figuresIn : Yearly → ℕ → Figures
 figuresIn y n = figuresOf (ARN y n) (CLN y n) (FLN y n) (WPAN y n)
 
 abbrev pub noFigures : Figures
-noFigures = record { revenue = pos 0; cap = pos 0; floor = pos 0; within = pos 0; held = pos 0; adjustment = pos 0 }
+noFigures = record { revenue = pos 0; cap = pos 0; floor = pos 0; wpa = pos 0; held = pos 0; adjustment = pos 0 }
 
 -- ---- the call, over n years
 abbrev pub assessRowsOf : Yearly → ℕ → Rows
-assessRowsOf y n = (BadYear, not (goodYearly y n)) ∷ (TooLarge, not (balancesWithin y n)) ∷ (FloorAboveCap, ltZ (CLN y n) (FLN y n)) ∷ []
+assessRowsOf y n = (BadYear, not (assessable y n)) ∷ (TooLarge, not (balancesWithin y n)) ∷ (FloorAboveCap, ltZ (CLN y n) (FLN y n)) ∷ []
 
 abbrev pub assessGivenOf : Yearly → ℕ → Figures
 assessGivenOf y n = cond (accepted (assessRowsOf y n)) (figuresIn y n) noFigures
@@ -86,7 +86,7 @@ assessGiven y = assessGivenOf y periodYears
 
 abbrev pub assessNumber : Assessment → ℕ
 assessNumber (Found figures) = 0
-assessNumber (Refused why) = numberOf why
+assessNumber (Refused why) = refusalNumber why
 
 abbrev pub assessFigures : Assessment → Figures
 assessFigures (Found figures) = figures
@@ -94,11 +94,11 @@ assessFigures (Refused why) = noFigures
 
 -- what `assess_years` promises of its result
 abbrev pub YearsGives : Yearly → ℕ → Assessment → Type 0
-YearsGives y n r = (assessNumber r ≡ lowest (assessRowsOf y n)) × (assessFigures r ≡ assessGivenOf y n)
+YearsGives y n r = (assessNumber r ≡ firstApplicable (assessRowsOf y n)) × (assessFigures r ≡ assessGivenOf y n)
 
 -- what `assess` promises of its result: the years of a whole period
 abbrev pub AssessGives : Yearly → Assessment → Type 0
-AssessGives y r = (assessNumber r ≡ lowest (assessRows y)) × (assessFigures r ≡ assessGiven y)
+AssessGives y r = (assessNumber r ≡ firstApplicable (assessRows y)) × (assessFigures r ≡ assessGiven y)
 
 -- ---- the licence's own words: document 000, SC3 4 to 8
 -- SC3 5 and 6: the Revenue Excess At Cap

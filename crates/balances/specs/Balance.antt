@@ -39,9 +39,9 @@ laterWithin index amounts from (suc left) =
 abbrev pub goodIndex : ℕ → Bool
 goodIndex i = leb 5000 i && leb i 50000
 
-abbrev pub goodAmount : ℤ → Bool
-goodAmount z = leb (natAbs z) 1000000000
+abbrev pub goodYearlyAmount : ℤ → Bool
+goodYearlyAmount z = leb (natAbs z) 1000000000
 
 unfoldable pub goodAmounts : List ℕ → List ℤ → ℕ → Bool
 goodAmounts index amounts zero = true
-goodAmounts index amounts (suc n) = (goodIndex (getD index n 0) && goodAmount (getD amounts n (pos 0))) && goodAmounts index amounts n
+goodAmounts index amounts (suc n) = (goodIndex (getD index n 0) && goodYearlyAmount (getD amounts n (pos 0))) && goodAmounts index amounts n

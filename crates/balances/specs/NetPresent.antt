@@ -69,7 +69,7 @@ pub record NearLicence (y : Yearly) (n : ℕ) : Type 0 where
   pub revenue : Near (ARN y n) (y .index) (y .revenue) (n - 1)
   pub cap : Near (CLN y n) (y .index) (y .cap) (n - 1)
   pub floor : Near (FLN y n) (y .index) (y .floor) (n - 1)
-  pub within : Near (WPAN y n) (y .index) (y .within) (n - 1)
+  pub wpa : Near (WPAN y n) (y .index) (y .wpa) (n - 1)
 
 -- ---- SC3 16 (a) to (e), for what stands over the line and for what stands under it
 pub record FiveUplifts (factor : ℕ → ℕ) : Type 0 where

@@ -9,9 +9,9 @@ use refusals::Refusal;
 ghost use mathlib.Core.Path.{_≡_};
 ghost use Prim.Native.Nat.{_≤_};
 ghost use lib.IntN.{natAbs};
-ghost use Rattle.refusals.specs.Refusals.{lowest};
+ghost use Rattle.refusals.specs.Refusals.{firstApplicable};
 ghost use Rattle.balances.specs.Balance.{goodAmounts, goodCount, goodIndex, mostBalance, periodYears};
-ghost use Rattle.balances.specs.Assessment.{assessFigures, assessNumber, figuresOf, goodRows, goodYearly, heldBetween, notNegative, AssessGives, YearsGives};
+ghost use Rattle.balances.specs.Assessment.{assessFigures, assessNumber, figuresOf, goodRows, assessable, heldBetween, notNegative, AssessGives, YearsGives};
 ghost use Rattle.balances.specs.Steps.{Bounded, foundFigures, foundRows, isOver, oneOver, valueOf};
 
 // What the years of an assessment period bring: index, assessed revenue, cap and floor level, within-period adjustment. An
@@ -21,7 +21,7 @@ pub struct Yearly {
     pub revenue: [i64; Yearly::YEARS],
     pub cap: [i64; Yearly::YEARS],
     pub floor: [i64; Yearly::YEARS],
-    pub within: [i64; Yearly::YEARS],
+    pub wpa: [i64; Yearly::YEARS],
 }
 
 impl Yearly {
@@ -41,7 +41,7 @@ pub struct Figures {
     pub revenue: i64,
     pub cap: i64,
     pub floor: i64,
-    pub within: i64,
+    pub wpa: i64,
     pub held: i64,
     pub adjustment: i64,
 }
@@ -108,7 +108,7 @@ fn good_rows(y: Yearly, n: usize) -> bool
     let revenue = y.revenue;
     let cap = y.cap;
     let floor = y.floor;
-    let paid = y.within;
+    let paid = y.wpa;
     if !good_amounts(index, revenue, n) {
         return false;
     }
@@ -128,8 +128,8 @@ fn good_rows(y: Yearly, n: usize) -> bool
 }
 
 // And n is one to five.
-fn good_yearly(y: Yearly, n: usize) -> bool
-    ensures { λ r. ⌜ r ≡ goodYearly y n ⌝ }
+fn can_be_assessed(y: Yearly, n: usize) -> bool
+    ensures { λ r. ⌜ r ≡ assessable y n ⌝ }
 {
     if !good_count(n) {
         return false;
@@ -166,7 +166,7 @@ fn figures_of(revenue: i64, cap: i64, floor: i64, paid: i64) -> Figures
         revenue,
         cap,
         floor,
-        within: paid,
+        wpa: paid,
         held,
         adjustment,
     }
@@ -210,7 +210,7 @@ fn one_over(revenue: Balance, cap: Balance, floor: Balance, paid: Balance) -> bo
 fn found(revenue: Balance, cap: Balance, floor: Balance, paid: Balance) -> Assessment
     requires { ⌜ Bounded revenue × Bounded cap × Bounded floor × Bounded paid ⌝ }
     ensures { λ r. ⌜
-        (assessNumber r ≡ lowest (foundRows revenue cap floor paid)) × (assessFigures r ≡ foundFigures revenue cap floor paid)
+        (assessNumber r ≡ firstApplicable (foundRows revenue cap floor paid)) × (assessFigures r ≡ foundFigures revenue cap floor paid)
         ⌝ }
 {
     let over = one_over(revenue, cap, floor, paid);
@@ -232,14 +232,14 @@ fn found(revenue: Balance, cap: Balance, floor: Balance, paid: Balance) -> Asses
 pub fn assess_years(y: Yearly, n: usize) -> Assessment
     ensures { λ r. ⌜ YearsGives y n r ⌝ }
 {
-    if !good_yearly(y, n) {
+    if !can_be_assessed(y, n) {
         return Assessment::Refused(Refusal::BadYear);
     }
     let index = y.index;
     let revenue = y.revenue;
     let cap = y.cap;
     let floor = y.floor;
-    let paid = y.within;
+    let paid = y.wpa;
     found(
         balance_of(index, revenue, n),
         balance_of(index, cap, n),

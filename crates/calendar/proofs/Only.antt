@@ -3,10 +3,10 @@ use mathlib.Core.Path.{_≡_, refl, sym, _∙_}
 use mathlib.Core.Logic.{_⊎_, inl, inr}
 use mathlib.Core.Bool.{true}
 use Prim.Native.Nat.{ℕ}
-use Rattle.refusals.specs.Refusals.{inTurn, standIn}
+use Rattle.refusals.specs.Refusals.{inTurn, inOrderOf}
 use Rattle.refusals.specs.Answers.{One}
 use Rattle.refusals.proofs.Cases.{Refusing, Answers, same-two, one-two}
-use Rattle.calendar.specs.Years.{yearStart, yearEnd, firstFigure, minutesNumber, endFigure, yearRows, MinutesGives}
+use Rattle.calendar.specs.Years.{yearStart, yearEnd, firstFigure, minutesNumber, endFigure, minutesRows, MinutesGives}
 use Rattle.calendar.specs.declared.YearMinutes.{YearMinutes}
 use Rattle.calendar.specs.declared.YearMinutes.the-variants.{Span, Refused}
 
@@ -30,8 +30,8 @@ pub only-minutes : (year regimeEnd : ℕ) (r s : YearMinutes) → MinutesGives y
 only-minutes year regimeEnd r s p q = same-two minutes-answers r s (p .0 ∙ sym (q .0)) (p .1 ∙ sym (q .1)) (p .2 ∙ sym (q .2))
 
 pub one-minutes : (year regimeEnd : ℕ) → One (MinutesGives year regimeEnd)
-one-minutes year regimeEnd = one-two minutes-answers (yearRows year) (yearStart year) (yearEnd year regimeEnd)
+one-minutes year regimeEnd = one-two minutes-answers (minutesRows year) (yearStart year) (yearEnd year regimeEnd)
 
 -- the rows stand in the order of the refusals
-pub in-turn : (year : ℕ) → standIn inTurn (yearRows year) ≡ true
+pub in-turn : (year : ℕ) → inOrderOf inTurn (minutesRows year) ≡ true
 in-turn year = refl

@@ -4,7 +4,7 @@ use mathlib.Core.List.{[], _∷_}
 use mathlib.Core.Path.{_≡_}
 use Prim.Native.Nat.{ℕ, zero, suc, _+_, _-_, _*_, _%_}
 use lib.Dec.{eqb, leb}
-use Rattle.refusals.specs.Refusals.{Rows, accepted, numberOf, lowest}
+use Rattle.refusals.specs.Refusals.{Rows, accepted, refusalNumber, firstApplicable}
 use Rattle.refusals.specs.declared.Refusal.the-variants.{BadYear}
 use Rattle.calendar.specs.declared.YearMinutes.{YearMinutes}
 use Rattle.calendar.specs.declared.YearMinutes.the-variants.{Span, Refused}
@@ -37,22 +37,22 @@ abbrev pub yearEnd : ℕ → ℕ → ℕ
 yearEnd year regimeEnd = cond (eqb year lastYear) regimeEnd (yearStart (suc year))
 
 -- ---- a year's first minute and its end
-abbrev pub goodYear : ℕ → Bool
-goodYear year = leb 1 year && leb year lastYear
+abbrev pub goodYearNumber : ℕ → Bool
+goodYearNumber year = leb 1 year && leb year lastYear
 
-abbrev pub yearRows : ℕ → Rows
-yearRows year = (BadYear, not (goodYear year)) ∷ []
+abbrev pub minutesRows : ℕ → Rows
+minutesRows year = (BadYear, not (goodYearNumber year)) ∷ []
 
-abbrev pub firstOf : ℕ → ℕ
-firstOf year = cond (accepted (yearRows year)) (yearStart year) 0
+abbrev pub firstGiven : ℕ → ℕ
+firstGiven year = cond (accepted (minutesRows year)) (yearStart year) 0
 
-abbrev pub endOf : ℕ → ℕ → ℕ
-endOf year regimeEnd = cond (accepted (yearRows year)) (yearEnd year regimeEnd) 0
+abbrev pub endGiven : ℕ → ℕ → ℕ
+endGiven year regimeEnd = cond (accepted (minutesRows year)) (yearEnd year regimeEnd) 0
 
 -- the number and the figures of each case of the answer
 abbrev pub minutesNumber : YearMinutes → ℕ
 minutesNumber (Span first end) = 0
-minutesNumber (Refused why) = numberOf why
+minutesNumber (Refused why) = refusalNumber why
 
 abbrev pub firstFigure : YearMinutes → ℕ
 firstFigure (Span first end) = first
@@ -65,4 +65,4 @@ endFigure (Refused why) = 0
 -- what `year_minutes` promises of its result
 abbrev pub MinutesGives : ℕ → ℕ → YearMinutes → Type 0
 MinutesGives year regimeEnd r =
-    (minutesNumber r ≡ lowest (yearRows year)) × (firstFigure r ≡ firstOf year) × (endFigure r ≡ endOf year regimeEnd)
+    (minutesNumber r ≡ firstApplicable (minutesRows year)) × (firstFigure r ≡ firstGiven year) × (endFigure r ≡ endGiven year regimeEnd)

@@ -4,6 +4,11 @@ ghost use mathlib.Core.Path.{_≡_};
 ghost use Prim.Native.Nat.{_≤_};
 ghost use Rattle.calendar.specs.Years.{endFigure, firstFigure, lastYear, yearStart, MinutesGives};
 
+// The numbers of the first and the last Relevant Year.
+pub const FIRST_YEAR: u8 = 1;
+
+pub const LAST_YEAR: u8 = 25;
+
 // Where a Relevant Year starts: 00:00 on 31 January 2019, then 1 January 2020 to 2043, in minutes.
 const YEAR_STARTS: [u32; 25] = [
     0,
@@ -40,10 +45,6 @@ pub enum YearMinutes {
 }
 
 impl YearMinutes {
-    pub const FIRST_YEAR: u8 = 1;
-
-    pub const LAST_YEAR: u8 = 25;
-
     // The first minute, 0 beside a refusal.
     pub fn first_minute(self) -> u32
         ensures { λ r. ⌜ r ≡ firstFigure self ⌝ }
@@ -78,14 +79,14 @@ fn year_start(year: u8) -> u32
 pub fn year_minutes(year: u8, regime_end: u32) -> YearMinutes
     ensures { λ r. ⌜ MinutesGives year «regime_end» r ⌝ }
 {
-    if year < YearMinutes::FIRST_YEAR {
+    if year < FIRST_YEAR {
         return YearMinutes::Refused(Refusal::BadYear);
     }
-    if YearMinutes::LAST_YEAR < year {
+    if LAST_YEAR < year {
         return YearMinutes::Refused(Refusal::BadYear);
     }
     let first = year_start(year);
-    if year == YearMinutes::LAST_YEAR {
+    if year == LAST_YEAR {
         return YearMinutes::Span {
             first,
             end: regime_end,

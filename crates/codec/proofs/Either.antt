@@ -12,7 +12,7 @@ use borrow.Author.Tests.{eq-eqb, eqb-true, ne-eqb}
 use Rattle.lists.proofs.Tests.{and-left, and-right, and-made}
 use Rattle.codec.specs.Numbers.{bytesOf, Bytes}
 use Rattle.codec.specs.Fields.{head, framed, isWhole}
-use Rattle.codec.specs.Format.{Value, mapO, beside, Item, field, fieldOf, firstOf, either, one, opt, requiredIf}
+use Rattle.codec.specs.Format.{Value, mapO, beside, Item, field, fieldOf, firstFound, either, one, opt, requiredIf}
 use Rattle.codec.proofs.Numbers.{spelled-bytes}
 use Rattle.codec.proofs.Values.{ValueLaws}
 use Rattle.codec.proofs.Items.{Over, over-le, ItemLaws}
@@ -70,11 +70,11 @@ module _ {A : Type 0} (is : A → Bool) (f g : Item A) (lf : ItemLaws f) (lg : I
   either-after a rest false h = lg .after a rest h
 
   either-there : (a : A) (rest : List ℕ) (b : Bool) → cond b (f .fine a) (g .fine a) ≡ true
-      → firstOf (f .look (cond b (f .text a) (g .text a) ++ rest)) (g .look (cond b (f .text a) (g .text a) ++ rest)) ≡ some a
+      → firstFound (f .look (cond b (f .text a) (g .text a) ++ rest)) (g .look (cond b (f .text a) (g .text a) ++ rest)) ≡ some a
   either-there a rest true h = rw (lf .there a rest h)
   either-there a rest false h = rw (apart a rest h) (lg .there a rest h)
 
-  either-back : (bs : List ℕ) (a : A) → Bytes bs → (o : Option A) → f .look bs ≡ o → firstOf o (g .look bs) ≡ some a
+  either-back : (bs : List ℕ) (a : A) → Bytes bs → (o : Option A) → f .look bs ≡ o → firstFound o (g .look bs) ≡ some a
       → (bs ≡ cond (is a) (f .text a) (g .text a) ++ drop (cond (is a) (f .size a) (g .size a)) bs) × (cond (is a) (f .fine a) (g .fine a) ≡ true)
   either-back bs a b (some x) e h =
       let q : f .look bs ≡ some a = e ∙ h in
@@ -85,7 +85,7 @@ module _ {A : Type 0} (is : A → Bool) (f g : Item A) (lf : ItemLaws f) (lg : I
   either-over a rest true = lf .over a rest
   either-over a rest false = over-le low (g .text a ++ rest) (lg .over a rest)
 
-  either-taken : (bs : List ℕ) (a : A) (o : Option A) → f .look bs ≡ o → firstOf o (g .look bs) ≡ some a
+  either-taken : (bs : List ℕ) (a : A) (o : Option A) → f .look bs ≡ o → firstFound o (g .look bs) ≡ some a
       → (isWhole (take (cond (is a) (f .size a) (g .size a)) bs) ≡ true) × (cond (is a) (f .size a) (g .size a) ≤ length bs)
   either-taken bs a (some x) e h =
       let q : f .look bs ≡ some a = e ∙ h in
@@ -99,10 +99,10 @@ module _ {A : Type 0} (is : A → Bool) (f g : Item A) (lf : ItemLaws f) (lg : I
         there = λ a rest h. either-there a rest (is a) h;
         back = λ bs a b h. either-back bs a b (f .look bs) refl h;
         tags = omega (arith, low, lg .tags);
-        other = λ bs o. ap₂ firstOf (lf .other bs (over-le (omega (arith, high)) bs o)) (lg .other bs o);
+        other = λ bs o. ap₂ firstFound (lf .other bs (over-le (omega (arith, high)) bs o)) (lg .other bs o);
         over = λ a rest. either-over a rest (is a);
         taken = λ bs a h. either-taken bs a (f .look bs) refl h;
-        alike = λ w r q h. ap₂ firstOf (lf .alike w r q h) (lg .alike w r q h);
+        alike = λ w r q h. ap₂ firstFound (lf .alike w r q h) (lg .alike w r q h);
       }
 
 -- ---- required, or absent for a default

@@ -15,7 +15,7 @@ use borrow.Author.Tests.{eq-eqb, eqb-true, le-leb, leb-true}
 use Rattle.lists.proofs.Tests.{and-left, and-right, and-made}
 use Rattle.codec.specs.Numbers.{Bytes}
 use Rattle.codec.specs.Fields.{isWhole, joined}
-use Rattle.codec.specs.Format.{Item, Res, got, stuck, more, ruled, scan, scanBy, texts, allFine, allKeep, many, every}
+use Rattle.codec.specs.Format.{Item, Res, got, stopped, more, ruled, scan, scanBy, texts, allFine, allKeep, many, every}
 use Rattle.codec.proofs.Values.{bytes-drop}
 use Rattle.codec.proofs.Items.{Over, over-le, ItemLaws}
 use Rattle.codec.proofs.Fields.{no-empty}
@@ -59,7 +59,7 @@ module _ {A : Type 0} (f : List A → Item A) (rule : List A → A → ℕ) (l :
   one-passed : (n : ℕ) (before : List A) (bs : List ℕ) (x : A) → Bytes bs → f before .look bs ≡ some x
       → Passed n (before ++ (x ∷ [])) (drop (f before .size x) bs) (onward n before bs x) → (k : ℕ) → rule before x ≡ k → Passed (suc n) before bs (ruled bs k (onward n before bs x))
   unfolding texts allFine allKeep
-  one-passed n before bs x b e i (suc k) h = none-passed (suc n) before (stuck (suc k) bs) (λ all rest h. cc)
+  one-passed n before bs x b e i (suc k) h = none-passed (suc n) before (stopped (suc k) bs) (λ all rest h. cc)
   one-passed n before bs x b e i zero h =
       let m = l before .back bs x b e in
       record {
@@ -111,7 +111,7 @@ module _ {A : Type 0} (f : List A → Item A) (rule : List A → A → ℕ) (l :
     one-alike a e (suc k) h =
         let c : w ≡ [] = append-cancel-right w [] r h in
         let x : w ++ q ≡ q = ap (λ (t : List ℕ). t ++ q) c in
-        (ap (f before .look) (x ∙ s .so) ∙ l before .alike (s .first) (s .other) (s .after) (s .whole) ∙ ap (f before .look) (sym (h ∙ s .is)) ∙ e, ap (stuck (suc k)) x)
+        (ap (f before .look) (x ∙ s .so) ∙ l before .alike (s .first) (s .other) (s .after) (s .whole) ∙ ap (f before .look) (sym (h ∙ s .is)) ∙ e, ap (stopped (suc k)) x)
     one-alike a e zero h =
         let d = drop (f before .size a) (w ++ r) in
         let x = by-fields n (before ++ (a ∷ [])) d in
@@ -146,7 +146,7 @@ module _ {A : Type 0} (f : List A → Item A) (rule : List A → A → ℕ) (l :
   by-alike (suc n) (suc m) before w r q s g h =
       step-alike n m before w r q s g (λ a u. by-alike n m (before ++ (a ∷ [])) u r q s) (f before .look (w ++ r)) refl h
 
-  every-begun : (bs rest : List ℕ) (k : ℕ) → (r : Res (List A)) → r ≡ stuck k rest → Passed (length bs) [] bs r → Begun (every f rule) bs rest
+  every-begun : (bs rest : List ℕ) (k : ℕ) → (r : Res (List A)) → r ≡ stopped k rest → Passed (length bs) [] bs r → Begun (every f rule) bs rest
   every-begun bs rest k r e p =
       record {
         front = texts f [] (p .new);
@@ -235,12 +235,12 @@ module _ {A : Type 0} (f : List A → Item A) (l : (before : List A) → ItemLaw
   all-keep before (x ∷ ys) = all-keep (before ++ (x ∷ [])) ys
 
   -- it is never stuck
-  step-got : (n : ℕ) (before : List A) (bs : List ℕ) (k : ℕ) (rest : List ℕ) → ((a : A) → scanBy f noRule n (before ++ (a ∷ [])) (drop (f before .size a) bs) ≡ stuck k rest → ⊥)
-      → (o : Option A) → step f noRule l n before bs o ≡ stuck k rest → ⊥
+  step-got : (n : ℕ) (before : List A) (bs : List ℕ) (k : ℕ) (rest : List ℕ) → ((a : A) → scanBy f noRule n (before ++ (a ∷ [])) (drop (f before .size a) bs) ≡ stopped k rest → ⊥)
+      → (o : Option A) → step f noRule l n before bs o ≡ stopped k rest → ⊥
   step-got n before bs k rest ih none h = let z : _≡_ {A = ℕ} 0 1 = cc in omega arith
   step-got n before bs k rest ih (some a) h = ih a h
 
-  scan-got : (n : ℕ) (before : List A) (bs : List ℕ) (k : ℕ) (rest : List ℕ) → scanBy f noRule n before bs ≡ stuck k rest → ⊥
+  scan-got : (n : ℕ) (before : List A) (bs : List ℕ) (k : ℕ) (rest : List ℕ) → scanBy f noRule n before bs ≡ stopped k rest → ⊥
   unfolding scanBy
   scan-got zero before bs k rest h = let z : _≡_ {A = ℕ} 0 1 = cc in omega arith
   scan-got (suc n) before bs k rest h = step-got n before bs k rest (λ a. scan-got n (before ++ (a ∷ [])) (drop (f before .size a) bs) k rest) (f before .look bs) h

@@ -9,7 +9,7 @@ use native.Mathlib.Omega.{arith}
 use lib.ListN.{drop}
 use Rattle.lists.proofs.Tests.{and-left, and-right}
 use Rattle.codec.specs.Numbers.{Bytes}
-use Rattle.codec.specs.Format.{Item, Res, got, stuck, Codec, need, one, orElse, unless, opt, pairUp, andThen, both}
+use Rattle.codec.specs.Format.{Item, Res, got, stopped, Codec, need, one, orElse, unless, opt, pairUp, andThen, both}
 use Rattle.codec.proofs.Values.{bytes-right}
 use Rattle.codec.proofs.Items.{Over, over-le, ItemLaws}
 
@@ -76,7 +76,7 @@ module _ {A B : Type 0} (c : Codec A) (d : A → Codec B) (lo mid hi : ℕ) (lc 
       rw (append-assoc (c .write a) (d a .write b) rest) (lc .over a (d a .write b ++ rest) ha (ld a .over b rest hb o))
 
   both-back : (bs r1 : List ℕ) (x : A) → Bytes bs → (bs ≡ c .write x ++ r1) × (c .ok x ≡ true) → (r : Res B) → d x .read r1 ≡ r → (p : A × B) (rest : List ℕ) → pairUp x r ≡ got p rest → (bs ≡ (c .write (p .0) ++ d (p .0) .write (p .1)) ++ rest) × ((c .ok (p .0) && d (p .0) .ok (p .1)) ≡ true)
-  both-back bs r1 x b k (stuck n r2) e p rest h = absurd (let z : _≡_ {A = ℕ} 0 1 = cc in omega arith)
+  both-back bs r1 x b k (stopped n r2) e p rest h = absurd (let z : _≡_ {A = ℕ} 0 1 = cc in omega arith)
   both-back bs r1 x b k (got y r2) e p rest h =
       let pe : (x, y) ≡ p = cc in
       let q : r2 ≡ rest = cc in
@@ -86,7 +86,7 @@ module _ {A B : Type 0} (c : Codec A) (d : A → Codec B) (lo mid hi : ℕ) (lc 
       (k .0 ∙ ap (λ (n : List ℕ). c .write x ++ n) (m .0) ∙ sym (append-assoc (c .write x) (d x .write y) r2), rw (k .1) (m .1))
 
   and-back : (bs : List ℕ) → Bytes bs → (r : Res A) → c .read bs ≡ r → (p : A × B) (rest : List ℕ) → andThen d r ≡ got p rest → (bs ≡ (c .write (p .0) ++ d (p .0) .write (p .1)) ++ rest) × ((c .ok (p .0) && d (p .0) .ok (p .1)) ≡ true)
-  and-back bs b (stuck n r) e p rest h = absurd (let z : _≡_ {A = ℕ} 0 1 = cc in omega arith)
+  and-back bs b (stopped n r) e p rest h = absurd (let z : _≡_ {A = ℕ} 0 1 = cc in omega arith)
   and-back bs b (got x r1) e p rest h = both-back bs r1 x b (lc .back bs x r1 b e) (d x .read r1) refl p rest h
 
   pub both-lawful : Lawful (both c d) lo hi

@@ -12,13 +12,13 @@ use lib.ListN.{length, take, drop}
 use Rattle.codec.specs.Numbers.{spelled, bytesOf}
 use Rattle.codec.specs.Fields.{head, framed}
 use Rattle.codec.specs.Format.{num, int, field}
-use Rattle.codec.specs.Leaves.{numberOf, numberBytes, numberFieldBytes, numberFound, amountFound, numberField, amountOf}
+use Rattle.codec.specs.Leaves.{numberAt, numberBytes, numberFieldBytes, numberFound, amountFound, numberField, amountAt}
 use Rattle.codec.specs.declared.FoundNumber.the-variants as N
 use Rattle.codec.specs.declared.FoundAmount.the-variants as A
 use Rattle.codec.proofs.Positions.{field-is, field-not}
 
-pub number-there : (n : ℕ) (bs : List ℕ) → n ≤ 8 → n ≤ length bs → numberOf n bs ≡ spelled 0 (take n bs)
-unfolding numberOf
+pub number-there : (n : ℕ) (bs : List ℕ) → n ≤ 8 → n ≤ length bs → numberAt n bs ≡ spelled 0 (take n bs)
+unfolding numberAt
 number-there n bs h k = rw (le-leb n 8 h, le-leb n (length bs) k)
 
 pub bytes-there : (n v : ℕ) → n ≤ 8 → numberBytes n v ≡ bytesOf n v
@@ -44,24 +44,24 @@ value-there tag n lo hi s at h e = field-there tag n lo hi (drop at s) h ∙ ap 
 pub value-not : (tag n lo hi : ℕ) (bs : List ℕ) → n ≤ 8 → framed tag n bs ≡ false → numberField tag n lo hi bs ≡ N.Not
 value-not tag n lo hi bs h e = field-there tag n lo hi bs h ∙ ap numberFound (field-not tag (num n lo hi) bs e)
 
-pub amount-there : (most : ℕ) (bs : List ℕ) → 8 ≤ length bs → amountOf most bs ≡ amountFound (int most .get bs)
-unfolding amountOf
+pub amount-there : (most : ℕ) (bs : List ℕ) → 8 ≤ length bs → amountAt most bs ≡ amountFound (int most .get bs)
+unfolding amountAt
 amount-there most bs h = rw (le-leb 8 (length bs) h)
 
 -- ---- too wide, or too short
-pub number-wide : (n : ℕ) (bs : List ℕ) → 8 < n → numberOf n bs ≡ 0
-unfolding numberOf
+pub number-wide : (n : ℕ) (bs : List ℕ) → 8 < n → numberAt n bs ≡ 0
+unfolding numberAt
 number-wide n bs h = rw (lt-leb n 8 h)
 
-pub number-short : (n : ℕ) (bs : List ℕ) → length bs < n → numberOf n bs ≡ 0
-unfolding numberOf
+pub number-short : (n : ℕ) (bs : List ℕ) → length bs < n → numberAt n bs ≡ 0
+unfolding numberAt
 number-short n bs h = rw (lt-leb n (length bs) h) (by (leb n 8))
   where
     by : (t : Bool) → cond (t && false) (spelled 0 (take n bs)) 0 ≡ 0
     by true = refl
     by false = refl
 
-pub number-past : (n : ℕ) (bs : List ℕ) → length bs ≡ 0 → numberOf n bs ≡ 0
+pub number-past : (n : ℕ) (bs : List ℕ) → length bs ≡ 0 → numberAt n bs ≡ 0
 unfolding spelled
 number-past zero bs h = number-there 0 bs (omega arith) (omega arith)
 number-past (suc n) bs h = number-short (suc n) bs (omega arith)
@@ -74,8 +74,8 @@ pub field-wide : (tag n lo hi : ℕ) (bs : List ℕ) → 8 < n → numberField t
 unfolding numberField
 field-wide tag n lo hi bs h = rw (lt-leb n 8 h)
 
-pub amount-short : (most : ℕ) (bs : List ℕ) → length bs < 8 → amountOf most bs ≡ A.Not
-unfolding amountOf
+pub amount-short : (most : ℕ) (bs : List ℕ) → length bs < 8 → amountAt most bs ≡ A.Not
+unfolding amountAt
 amount-short most bs h = rw (lt-leb 8 (length bs) h)
 
 -- ---- from the answer to what was found

@@ -12,7 +12,7 @@ use Rattle.lists.specs.Lists.{all}
 use Rattle.lists.proofs.Tests.{and-left, and-right, and-made}
 use Rattle.codec.specs.Numbers.{Bytes}
 use Rattle.codec.specs.Fields.{isWhole, joined}
-use Rattle.codec.specs.Format.{Item, Res, got, stuck, Codec, malformed, need, one, orElse, opt, pairUp, andThen, both}
+use Rattle.codec.specs.Format.{Item, Res, got, stopped, Codec, malformed, need, one, orElse, opt, pairUp, andThen, both}
 use Rattle.codec.proofs.Values.{bytes-right}
 use Rattle.codec.proofs.Items.{ItemLaws}
 use Rattle.codec.proofs.Formats.{Lawful}
@@ -20,12 +20,12 @@ use Rattle.codec.proofs.Formats.{Lawful}
 -- what a reading leaves
 abbrev pub restOf : {A : Type 0} → Res A → List ℕ
 restOf (got a r) = r
-restOf (stuck n r) = r
+restOf (stopped n r) = r
 
 -- the same outcome, with other bytes left
 abbrev pub moved : {A : Type 0} → Res A → List ℕ → Res A
 moved (got a r) q = got a q
-moved (stuck n r) q = stuck n q
+moved (stopped n r) q = stopped n q
 
 -- bytes are whole fields, and then the rest
 pub record Whole (bs rest : List ℕ) : Type 0 where
@@ -60,11 +60,11 @@ pub record Placed {A : Type 0} (c : Codec A) : Type 0 where
   pub any : A
   pub any-ok : c .ok any ≡ true
   -- where it is stuck, what was read begins something that may be written
-  pub begun : (bs : List ℕ) (n : ℕ) (rest : List ℕ) → Bytes bs → c .read bs ≡ stuck n rest → Begun c bs rest
+  pub begun : (bs : List ℕ) (n : ℕ) (rest : List ℕ) → Bytes bs → c .read bs ≡ stopped n rest → Begun c bs rest
 
 -- it refuses by one number alone
 pub record Numbered {A : Type 0} (c : Codec A) (k : ℕ) : Type 0 where
-  pub only : (bs : List ℕ) (why : ℕ) (rest : List ℕ) → c .read bs ≡ stuck why rest → why ≡ k
+  pub only : (bs : List ℕ) (why : ℕ) (rest : List ℕ) → c .read bs ≡ stopped why rest → why ≡ k
 
 -- ---- whole fields
 pub no-field : (bs : List ℕ) → Whole bs bs
@@ -135,10 +135,10 @@ module _ {A : Type 0} (f : Item A) (l : ItemLaws f) where
   need-fields bs (some x) e = found-more bs (drop (f .size x) bs) x e (no-field (drop (f .size x) bs))
 
   need-alike : (w r q : List ℕ) → SameField r q → (o : Option A) → f .look (w ++ r) ≡ o → restOf (need f (w ++ r) o) ≡ r → need f (w ++ q) (f .look (w ++ q)) ≡ moved (need f (w ++ r) o) q
-  need-alike w r q s none e h = let k = none-alike w r q s e h in rw (k .0) (ap (stuck malformed) (k .1))
+  need-alike w r q s none e h = let k = none-alike w r q s e h in rw (k .0) (ap (stopped malformed) (k .1))
   need-alike w r q s (some x) e h = let k = found-alike w r [] x e h q in rw (k .0) (ap (got x) (k .1))
 
-  need-begun : (a : A) → f .fine a ≡ true → (bs : List ℕ) (o : Option A) (n : ℕ) (rest : List ℕ) → need f bs o ≡ stuck n rest → Begun (one f) bs rest
+  need-begun : (a : A) → f .fine a ≡ true → (bs : List ℕ) (o : Option A) (n : ℕ) (rest : List ℕ) → need f bs o ≡ stopped n rest → Begun (one f) bs rest
   need-begun a k bs none n rest h = record { front = []; is = cc; value = a; ok = k; more = f .text a; begins = refl }
   need-begun a k bs (some x) n rest h = absurd (let z : _≡_ {A = ℕ} 0 1 = cc in omega arith)
 
@@ -152,7 +152,7 @@ module _ {A : Type 0} (f : Item A) (l : ItemLaws f) where
         begun = λ bs n rest b h. need-begun a k bs (f .look bs) n rest h;
       }
 
-  need-numbered : (bs : List ℕ) (o : Option A) (why : ℕ) (rest : List ℕ) → need f bs o ≡ stuck why rest → why ≡ malformed
+  need-numbered : (bs : List ℕ) (o : Option A) (why : ℕ) (rest : List ℕ) → need f bs o ≡ stopped why rest → why ≡ malformed
   need-numbered bs none why rest h = cc
   need-numbered bs (some x) why rest h = cc
 
@@ -169,7 +169,7 @@ module _ {A : Type 0} (f : Item A) (l : ItemLaws f) where
     else-alike w r q s (some x) e h = let k = found-alike w r [] x e h q in rw (k .0) (ap (got x) (k .1))
 
     -- it is never stuck
-    else-got : (bs : List ℕ) (o : Option A) (n : ℕ) (rest : List ℕ) → orElse f d bs o ≡ stuck n rest → ⊥
+    else-got : (bs : List ℕ) (o : Option A) (n : ℕ) (rest : List ℕ) → orElse f d bs o ≡ stopped n rest → ⊥
     else-got bs none n rest h = let z : _≡_ {A = ℕ} 0 1 = cc in omega arith
     else-got bs (some x) n rest h = let z : _≡_ {A = ℕ} 0 1 = cc in omega arith
 
@@ -189,25 +189,25 @@ module _ {A : Type 0} (f : Item A) (l : ItemLaws f) where
 -- ---- one after the other
 rest-pair : {A B : Type 0} (a : A) (x : Res B) → restOf (pairUp a x) ≡ restOf x
 rest-pair a (got b r) = refl
-rest-pair a (stuck n r) = refl
+rest-pair a (stopped n r) = refl
 
 moved-pair : {A B : Type 0} (a : A) (x : Res B) (q : List ℕ) → pairUp a (moved x q) ≡ moved (pairUp a x) q
 moved-pair a (got b r) q = refl
-moved-pair a (stuck n r) q = refl
+moved-pair a (stopped n r) q = refl
 
-stuck-pair : {A B : Type 0} (a : A) (x : Res B) (n : ℕ) (rest : List ℕ) → pairUp a x ≡ stuck n rest → x ≡ stuck n rest
-stuck-pair a (got b r) n rest h = cc
-stuck-pair a (stuck k r) n rest h = cc
+stopped-pair : {A B : Type 0} (a : A) (x : Res B) (n : ℕ) (rest : List ℕ) → pairUp a x ≡ stopped n rest → x ≡ stopped n rest
+stopped-pair a (got b r) n rest h = cc
+stopped-pair a (stopped k r) n rest h = cc
 
 module _ {A B : Type 0} (c : Codec A) (d : A → Codec B) (lo hi : ℕ) (lc : Lawful c lo hi) (pc : Placed c) (pd : (a : A) → Placed (d a)) where
   both-fields : (bs : List ℕ) (x : Res A) → Whole bs (restOf x) → Whole bs (restOf (andThen d x))
-  both-fields bs (stuck n r) w = w
+  both-fields bs (stopped n r) w = w
   both-fields bs (got a m) w =
       rw (w .is, rest-pair a (d a .read m)) (fields-more (w .fields) m (restOf (d a .read m)) (w .whole) (pd a .fields m))
 
   -- f is what the first reads, g what the second
   both-alike : (w r q : List ℕ) → SameField r q → (x : Res A) → c .read (w ++ r) ≡ x → restOf (andThen d x) ≡ r → andThen d (c .read (w ++ q)) ≡ moved (andThen d x) q
-  both-alike w r q s (stuck n m) e h = ap (andThen d) (pc .alike w r q s (ap restOf e ∙ h) ∙ ap (λ (x : Res A). moved x q) e)
+  both-alike w r q s (stopped n m) e h = ap (andThen d) (pc .alike w r q s (ap restOf e ∙ h) ∙ ap (λ (x : Res A). moved x q) e)
   both-alike w r q s (got a m) e h =
       let x = pc .fields (w ++ r) in
       let y = pd a .fields m in
@@ -246,13 +246,13 @@ module _ {A B : Type 0} (c : Codec A) (d : A → Codec B) (lo hi : ℕ) (lc : La
         begins = ap (λ (t : List ℕ). c .write a ++ t) (z .begins) ∙ sym (append-assoc (c .write a) (z .front) (z .more));
       }
 
-  both-begun : (bs : List ℕ) → Bytes bs → (x : Res A) → c .read bs ≡ x → (n : ℕ) (rest : List ℕ) → andThen d x ≡ stuck n rest → Begun (both c d) bs rest
-  both-begun bs b (stuck k r) e n rest h =
+  both-begun : (bs : List ℕ) → Bytes bs → (x : Res A) → c .read bs ≡ x → (n : ℕ) (rest : List ℕ) → andThen d x ≡ stopped n rest → Begun (both c d) bs rest
+  both-begun bs b (stopped k r) e n rest h =
       let q : r ≡ rest = cc in
       rw (← q) (first-begun bs r (pc .begun bs k r b e))
   both-begun bs b (got a m) e n rest h =
       let k = lc .back bs a m b e in
-      second-begun bs m a k rest (pd a .begun m n rest (bytes-right (c .write a) m (subst Bytes (k .0) b)) (stuck-pair a (d a .read m) n rest h))
+      second-begun bs m a k rest (pd a .begun m n rest (bytes-right (c .write a) m (subst Bytes (k .0) b)) (stopped-pair a (d a .read m) n rest h))
 
   pub both-placed : Placed (both c d)
   both-placed =
@@ -265,11 +265,11 @@ module _ {A B : Type 0} (c : Codec A) (d : A → Codec B) (lo hi : ℕ) (lc : La
       }
 
 module _ {A B : Type 0} (c : Codec A) (d : A → Codec B) {k : ℕ} (nc : Numbered c k) (nd : (a : A) → Numbered (d a) k) where
-  then-numbered : (bs : List ℕ) (x : Res A) → c .read bs ≡ x → (why : ℕ) (rest : List ℕ) → andThen d x ≡ stuck why rest → why ≡ k
-  then-numbered bs (stuck n r) e why rest h =
+  then-numbered : (bs : List ℕ) (x : Res A) → c .read bs ≡ x → (why : ℕ) (rest : List ℕ) → andThen d x ≡ stopped why rest → why ≡ k
+  then-numbered bs (stopped n r) e why rest h =
       let q = nc .only bs n r e in
       cc
-  then-numbered bs (got a m) e why rest h = nd a .only m why rest (stuck-pair a (d a .read m) why rest h)
+  then-numbered bs (got a m) e why rest h = nd a .only m why rest (stopped-pair a (d a .read m) why rest h)
 
   pub both-numbered : Numbered (both c d) k
   both-numbered = record { only = λ bs why rest h. then-numbered bs (c .read bs) refl why rest h }

@@ -10,10 +10,10 @@ use native.Mathlib.Omega.{arith}
 use lib.Dec.{eqb}
 use borrow.Author.Tests.{eqb-true, ne-eqb}
 use Rattle.lists.proofs.Tests.{and-left, not-yes}
-use Rattle.codec.specs.Format.{Value, num, pair, such, beside, Item, field, tagged, either, Codec, malformed, one, many, every, requiredIf, both}
-use Rattle.codec.proofs.Values.{ValueLaws, num-laws, pair-laws, such-laws}
+use Rattle.codec.specs.Format.{Value, num, pair, restricted, beside, Item, field, tagged, either, Codec, malformed, one, many, every, requiredIf, both}
+use Rattle.codec.proofs.Values.{ValueLaws, num-laws, pair-laws, restricted-laws}
 use Rattle.codec.proofs.Items.{ItemLaws, tagged-laws}
-use Rattle.codec.proofs.Found.{such-passes}
+use Rattle.codec.proofs.Found.{restricted-passes}
 use Rattle.codec.proofs.Formats.{Lawful, one-lawful, opt-lawful, both-lawful}
 use Rattle.codec.proofs.Places.{Placed, Numbered, one-placed, opt-placed, both-placed, one-numbered, opt-numbered, both-numbered}
 use Rattle.codec.proofs.Either.{beside-laws, lengths-apart, tags-apart, either-laws, required-if-lawful, required-if-placed, required-if-numbered}
@@ -25,10 +25,10 @@ module _ {A : Type 0} (tag : ℕ) (v : Value A) (l : ValueLaws v) (short : v .le
   isPlain p = eqb (p .1) 1
 
   abbrev plain : List (A × ℕ) → Value (A × ℕ)
-  plain before = such (λ p. isPlain p && may before p) (beside 1 v)
+  plain before = restricted (λ p. isPlain p && may before p) (beside 1 v)
 
   abbrev caused : List (A × ℕ) → Value (A × ℕ)
-  caused before = such (λ p. not (isPlain p) && may before p) (pair v (num 1 1 255))
+  caused before = restricted (λ p. not (isPlain p) && may before p) (pair v (num 1 1 255))
 
   abbrev oneByte : List (A × ℕ) → Item (A × ℕ)
   oneByte before = either isPlain (tagged tag (plain before)) (tagged tag (caused before))
@@ -36,11 +36,11 @@ module _ {A : Type 0} (tag : ℕ) (v : Value A) (l : ValueLaws v) (short : v .le
   one-byte-laws : (before : List (A × ℕ)) → ItemLaws (oneByte before)
   one-byte-laws before =
       either-laws isPlain (tagged tag (plain before)) (tagged tag (caused before))
-      (tagged-laws tag (plain before) (omega arith) (such-laws (λ p. isPlain p && may before p) (beside 1 v) (beside-laws 1 v l)))
-      (tagged-laws tag (caused before) (omega arith) (such-laws (λ p. not (isPlain p) && may before p) (pair v (num 1 1 255)) (pair-laws v (num 1 1 255) l (num-laws 1 1 255 (omega arith)))))
+      (tagged-laws tag (plain before) (omega arith) (restricted-laws (λ p. isPlain p && may before p) (beside 1 v) (beside-laws 1 v l)))
+      (tagged-laws tag (caused before) (omega arith) (restricted-laws (λ p. not (isPlain p) && may before p) (pair v (num 1 1 255)) (pair-laws v (num 1 1 255) l (num-laws 1 1 255 (omega arith)))))
       (le-refl tag) (le-refl tag)
-      (λ bs p e. and-left (isPlain p) (may before p) (such-passes tag (beside 1 v) bs (λ p. isPlain p && may before p) p e))
-      (λ bs p e. not-yes (isPlain p) (and-left (not (isPlain p)) (may before p) (such-passes tag (pair v (num 1 1 255)) bs (λ p. not (isPlain p) && may before p) p e)))
+      (λ bs p e. and-left (isPlain p) (may before p) (restricted-passes tag (beside 1 v) bs (λ p. isPlain p && may before p) p e))
+      (λ bs p e. not-yes (isPlain p) (and-left (not (isPlain p)) (may before p) (restricted-passes tag (pair v (num 1 1 255)) bs (λ p. not (isPlain p) && may before p) p e)))
       (λ p rest h. lengths-apart tag (plain before) (caused before) (omega arith) (λ e. omega arith) p rest)
 
   pub two-lengths-lawful : (n : ℕ) → Lawful (many oneByte n) tag (suc tag)
@@ -52,19 +52,19 @@ module _ {A : Type 0} (tag : ℕ) (v : Value A) (l : ValueLaws v) (short : v .le
 -- ---- pieces under a tag and the next, 0 and 1 beside them, as many as there are
 module _ {A : Type 0} (tag : ℕ) (v : Value A) (l : ValueLaws v) (short : v .len < 65536) (rule : List (A × ℕ) → A × ℕ → ℕ) where
   abbrev marked : ℕ → Value (A × ℕ)
-  marked k = such (λ p. eqb (p .1) k) (beside k v)
+  marked k = restricted (λ p. eqb (p .1) k) (beside k v)
 
   abbrev piece : List (A × ℕ) → Item (A × ℕ)
   piece before = either (λ p. eqb (p .1) 0) (tagged tag (marked 0)) (tagged (suc tag) (marked 1))
 
   marked-is : (t k : ℕ) (bs : List ℕ) (p : A × ℕ) → field t (marked k) bs ≡ some p → eqb (p .1) k ≡ true
-  marked-is t k bs p e = such-passes t (beside k v) bs (λ p. eqb (p .1) k) p e
+  marked-is t k bs p e = restricted-passes t (beside k v) bs (λ p. eqb (p .1) k) p e
 
   piece-laws : (before : List (A × ℕ)) → ItemLaws (piece before)
   piece-laws before =
       either-laws (λ p. eqb (p .1) 0) (tagged tag (marked 0)) (tagged (suc tag) (marked 1))
-      (tagged-laws tag (marked 0) short (such-laws (λ p. eqb (p .1) 0) (beside 0 v) (beside-laws 0 v l)))
-      (tagged-laws (suc tag) (marked 1) short (such-laws (λ p. eqb (p .1) 1) (beside 1 v) (beside-laws 1 v l)))
+      (tagged-laws tag (marked 0) short (restricted-laws (λ p. eqb (p .1) 0) (beside 0 v) (beside-laws 0 v l)))
+      (tagged-laws (suc tag) (marked 1) short (restricted-laws (λ p. eqb (p .1) 1) (beside 1 v) (beside-laws 1 v l)))
       (omega arith) (omega arith)
       (marked-is tag 0)
       (λ bs p e. ne-eqb (p .1) 0 (λ z. omega (arith, z, eqb-true (p .1) 1 (marked-is (suc tag) 1 bs p e))))

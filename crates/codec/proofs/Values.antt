@@ -17,7 +17,7 @@ use mir.Val.{toZ, ofZ, SFits}
 use mir.ValLaws.{toZ-ofZ, ofZ-toZ, ofZ-fits}
 use Rattle.lists.proofs.Tests.{and-left, and-right}
 use Rattle.codec.specs.Numbers.{spelled, bytesOf, Bytes}
-use Rattle.codec.specs.Format.{Value, when, mapO, bindO, num, int, pair, mapped, such}
+use Rattle.codec.specs.Format.{Value, when, mapO, bindO, num, int, pair, mapped, restricted}
 use Rattle.codec.proofs.Numbers.{bytes-length, spelled-bytes, bytes-spelled, fits-word, spelled-small}
 
 pub bytes-drop : (n : ℕ) (s : List ℕ) → Bytes s → Bytes (drop n s)
@@ -145,21 +145,21 @@ module _ {A B : Type 0} (to : A → B) (from : B → A) (v : Value A) (tf : (b :
       }
 
 module _ {A : Type 0} (t : A → Bool) (v : Value A) (lv : ValueLaws v) where
-  such-there : (a : A) (rest : List ℕ) → (v .fine a && t a) ≡ true → such t v .get (v .put a ++ rest) ≡ some a
-  such-there a rest f = rw (lv .there a rest (and-left (v .fine a) (t a) f), and-right (v .fine a) (t a) f)
+  restricted-there : (a : A) (rest : List ℕ) → (v .fine a && t a) ≡ true → restricted t v .get (v .put a ++ rest) ≡ some a
+  restricted-there a rest f = rw (lv .there a rest (and-left (v .fine a) (t a) f), and-right (v .fine a) (t a) f)
 
-  such-back : (l : List ℕ) → Bytes l → v .len ≤ length l → (o : Option A) → v .get l ≡ o → (a : A) → bindO o (λ x. when (t x) (some x)) ≡ some a → (l ≡ v .put a ++ drop (v .len) l) × ((v .fine a && t a) ≡ true)
-  such-back l by h none e a g = absurd (let z : _≡_ {A = ℕ} 0 1 = cc in omega arith)
-  such-back l by h (some x) e a g =
+  restricted-back : (l : List ℕ) → Bytes l → v .len ≤ length l → (o : Option A) → v .get l ≡ o → (a : A) → bindO o (λ x. when (t x) (some x)) ≡ some a → (l ≡ v .put a ++ drop (v .len) l) × ((v .fine a && t a) ≡ true)
+  restricted-back l by h none e a g = absurd (let z : _≡_ {A = ℕ} 0 1 = cc in omega arith)
+  restricted-back l by h (some x) e a g =
       let w = when-true (t x) x a g in
       let k = lv .back l x by h e in
       rw (← w .1) (k .0, rw (k .1) (w .0))
 
-  pub such-laws : ValueLaws (such t v)
-  such-laws =
+  pub restricted-laws : ValueLaws (restricted t v)
+  restricted-laws =
       record {
         size = λ a f. lv .size a (and-left (v .fine a) (t a) f);
-        there = such-there;
-        back = λ l a by h g. such-back l by h (v .get l) refl a g;
+        there = restricted-there;
+        back = λ l a by h g. restricted-back l by h (v .get l) refl a g;
         alike = λ p r q e. ap (λ (o : Option A). bindO o (λ x. when (t x) (some x))) (lv .alike p r q e);
       }

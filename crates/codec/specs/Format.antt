@@ -65,8 +65,8 @@ abbrev pub mapped : {A B : Type 0} → (A → B) → (B → A) → Value A → V
 mapped to from v = record { len = v .len; get = λ l. mapO to (v .get l); put = λ b. v .put (from b); fine = λ b. v .fine (from b) }
 
 -- only those that pass a test
-abbrev pub such : {A : Type 0} → (A → Bool) → Value A → Value A
-such test v = record {
+abbrev pub restricted : {A : Type 0} → (A → Bool) → Value A → Value A
+restricted test v = record {
   len = v .len;
   get = λ l. bindO (v .get l) (λ a. when (test a) (some a));
   put = v .put;
@@ -104,15 +104,15 @@ tagged tag v = record { tag = tag; last = tag; look = field tag v; size = λ a. 
 
 -- a field that is one of two: the first where the test holds of its value, else the second. Two lengths under one tag, or two
 -- tags next to each other
-abbrev pub firstOf : {A : Type 0} → Option A → Option A → Option A
-firstOf none o = o
-firstOf (some a) o = some a
+abbrev pub firstFound : {A : Type 0} → Option A → Option A → Option A
+firstFound none o = o
+firstFound (some a) o = some a
 
 abbrev pub either : {A : Type 0} → (A → Bool) → Item A → Item A → Item A
 either is f g = record {
   tag = f .tag;
   last = g .last;
-  look = λ bs. firstOf (f .look bs) (g .look bs);
+  look = λ bs. firstFound (f .look bs) (g .look bs);
   size = λ a. cond (is a) (f .size a) (g .size a);
   text = λ a. cond (is a) (f .text a) (g .text a);
   fine = λ a. cond (is a) (f .fine a) (g .fine a);
@@ -122,7 +122,7 @@ either is f g = record {
 -- what a reader makes of bytes: a value and the bytes that are left, or a refusal's number and the bytes where it stands
 pub data Res (A : Type 0) : Type 0 where
   got : A → List ℕ → Res A
-  stuck : ℕ → List ℕ → Res A
+  stopped : ℕ → List ℕ → Res A
 
 pub record Codec (A : Type 0) : Type 0 where
   pub read : List ℕ → Res A
@@ -136,7 +136,7 @@ malformed = 13
 -- "required"
 abbrev pub need : {A : Type 0} → Item A → List ℕ → Option A → Res A
 need f bs (some a) = got a (drop (f .size a) bs)
-need f bs none = stuck malformed bs
+need f bs none = stopped malformed bs
 
 abbrev pub one : {A : Type 0} → Item A → Codec A
 one f = record { read = λ bs. need f bs (f .look bs); write = f .text; ok = f .fine }
@@ -182,7 +182,7 @@ many f n = record { read = scan f n []; write = texts f []; ok = λ l. leb (leng
 -- the number that the rule gives
 abbrev pub ruled : {A : Type 0} → List ℕ → ℕ → Res (List A) → Res (List A)
 ruled bs zero go = go
-ruled bs (suc k) go = stuck (suc k) bs
+ruled bs (suc k) go = stopped (suc k) bs
 
 unfoldable pub scanBy : {A : Type 0} → (List A → Item A) → (List A → A → ℕ) → ℕ → List A → List ℕ → Res (List A)
 scanBy f rule zero before bs = got before bs
@@ -203,11 +203,11 @@ requiredIf must f g d is = cond must (one f) (opt g d is)
 -- one after the other: what follows can depend on what was read first
 abbrev pub pairUp : {A B : Type 0} → A → Res B → Res (A × B)
 pairUp a (got b r) = got (a, b) r
-pairUp a (stuck n r) = stuck n r
+pairUp a (stopped n r) = stopped n r
 
 abbrev pub andThen : {A B : Type 0} → (A → Codec B) → Res A → Res (A × B)
 andThen d (got a r) = pairUp a (d a .read r)
-andThen d (stuck n r) = stuck n r
+andThen d (stopped n r) = stopped n r
 
 abbrev pub both : {A B : Type 0} → Codec A → (A → Codec B) → Codec (A × B)
 both c d = record {
@@ -223,6 +223,6 @@ pub record ReadAt {A : Type 0} (c : Codec A) (s : List ℕ) (at : ℕ) (a : A) (
   pub within : next ≤ length s
 
 -- from place `at` on it is stuck by this number, at that place
-pub record StuckAt {A : Type 0} (c : Codec A) (s : List ℕ) (at why place : ℕ) : Type 0 where
-  pub is : c .read (drop at s) ≡ stuck why (drop place s)
+pub record StoppedAt {A : Type 0} (c : Codec A) (s : List ℕ) (at why place : ℕ) : Type 0 where
+  pub is : c .read (drop at s) ≡ stopped why (drop place s)
   pub within : place ≤ length s

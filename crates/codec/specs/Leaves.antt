@@ -23,8 +23,8 @@ abbrev pub isThere : ℕ → List ℕ → Bool
 isThere n bs = leb n widest && leb n (length bs)
 
 -- the number that the first n bytes spell; 0 where they are not there
-unfoldable pub numberOf : ℕ → List ℕ → ℕ
-numberOf n bs = cond (isThere n bs) (spelled 0 (take n bs)) 0
+unfoldable pub numberAt : ℕ → List ℕ → ℕ
+numberAt n bs = cond (isThere n bs) (spelled 0 (take n bs)) 0
 
 -- the n bytes from place p on spell v
 pub record Spells (s : List ℕ) (p n v : ℕ) : Type 0 where
@@ -53,5 +53,5 @@ unfoldable pub numberField : ℕ → ℕ → ℕ → ℕ → List ℕ → FoundN
 numberField tag n lo hi bs = numberFound (when (leb n widest) (field tag (num n lo hi) bs))
 
 -- a signed number of eight bytes, of at most this magnitude
-unfoldable pub amountOf : ℕ → List ℕ → FoundAmount
-amountOf most bs = amountFound (when (leb widest (length bs)) (int most .get bs))
+unfoldable pub amountAt : ℕ → List ℕ → FoundAmount
+amountAt most bs = amountFound (when (leb widest (length bs)) (int most .get bs))

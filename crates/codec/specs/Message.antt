@@ -8,7 +8,7 @@ use lib.Dec.{leb}
 use lib.ListN.{length, take, drop}
 use Rattle.lists.specs.Lists.{all}
 use Rattle.codec.specs.Fields.{isWhole, joined}
-use Rattle.codec.specs.Format.{Res, got, stuck, Codec, malformed}
+use Rattle.codec.specs.Format.{Res, got, stopped, Codec, malformed}
 
 -- ---- reading
 -- a value, or a refusal's number and place
@@ -18,13 +18,13 @@ pub data Reading (M : Type 0) : Type 0 where
 
 -- refused where the format is stuck, by its number; 13 where bytes are left over
 abbrev pub finish : {A M : Type 0} → (A → M) → ℕ → Res A → Reading M
-finish of n (got a []) = whole (of a)
-finish of n (got a (x ∷ rest)) = refused malformed (n - length (x ∷ rest))
-finish of n (stuck why rest) = refused why (n - length rest)
+finish fromParts n (got a []) = whole (fromParts a)
+finish fromParts n (got a (x ∷ rest)) = refused malformed (n - length (x ∷ rest))
+finish fromParts n (stopped why rest) = refused why (n - length rest)
 
 -- longer bytes are refused at the limit before reading
 unfoldable pub reading : {A M : Type 0} → Codec A → (A → M) → ℕ → List ℕ → Reading M
-reading c of most bs = cond (leb (length bs) most) (finish of (length bs) (c .read bs)) (refused malformed most)
+reading c fromParts most bs = cond (leb (length bs) most) (finish fromParts (length bs) (c .read bs)) (refused malformed most)
 
 abbrev pub isRefused : {M : Type 0} → Reading M → Bool
 isRefused (whole v) = false
@@ -50,14 +50,14 @@ bufferIn accepted bs out = cond accepted (bs ++ drop (length bs) out) out
 
 -- ---- which bytes are the message of a value
 -- the format writes these bytes for what it may write, and the value and its parts are made of each other
-pub record Messages {A M : Type 0} (c : Codec A) (of : A → M) (parts : M → A) (Says : M → List ℕ → Type 0) : Type 0 where
-  pub said : (a : A) → c .ok a ≡ true → Says (of a) (c .write a)
+pub record Messages {A M : Type 0} (c : Codec A) (fromParts : A → M) (parts : M → A) (Says : M → List ℕ → Type 0) : Type 0 where
+  pub said : (a : A) → c .ok a ≡ true → Says (fromParts a) (c .write a)
   pub ok : (v : M) (bs : List ℕ) → Says v bs → c .ok (parts v) ≡ true
   pub is : (v : M) (bs : List ℕ) → Says v bs → c .write (parts v) ≡ bs
-  pub back : (v : M) (bs : List ℕ) → Says v bs → of (parts v) ≡ v
+  pub back : (v : M) (bs : List ℕ) → Says v bs → fromParts (parts v) ≡ v
 
 -- ---- the place of a refusal: that of the first field that cannot be taken where it stands, or the end
-pub record Stands {M : Type 0} (Says : M → List ℕ → Type 0) (bs : List ℕ) (place : ℕ) : Type 0 where
+pub record RefusalPlace {M : Type 0} (Says : M → List ℕ → Type 0) (bs : List ℕ) (place : ℕ) : Type 0 where
   -- the place is that of one of the bytes, or their end
   pub inside : place ≤ length bs
   -- the bytes before the place are whole fields

@@ -14,7 +14,7 @@ ghost use mir.Syntax.{w64};
 ghost use mir.Val.{toZ};
 ghost use Rattle.codec.specs.Numbers.{spelled};
 ghost use Rattle.codec.specs.Fields.{framed};
-ghost use Rattle.codec.specs.Leaves.{amountOf, numberField, numberOf};
+ghost use Rattle.codec.specs.Leaves.{amountAt, numberField, numberAt};
 
 // The most bytes of a number.
 const WIDEST: usize = 8;
@@ -47,7 +47,7 @@ fn spell(s: &[u8], at: usize, n: usize) -> u64
 
 // The number of n bytes from `at` on; 0 where they are not there.
 pub fn number(s: &[u8], at: usize, n: usize) -> u64
-    ensures { λ r. ⌜ r ≡ numberOf n (drop at (now (s .entry))) ⌝ }
+    ensures { λ r. ⌜ r ≡ numberAt n (drop at (now (s .entry))) ⌝ }
 {
     if WIDEST < n {
         return 0;
@@ -113,7 +113,7 @@ pub fn signed(u: u64) -> i64
 
 // The signed number of eight bytes from `at` on, of at most this magnitude.
 pub fn amount(s: &[u8], at: usize, most: u64) -> FoundAmount
-    ensures { λ r. ⌜ r ≡ amountOf most (drop at (now (s .entry))) ⌝ }
+    ensures { λ r. ⌜ r ≡ amountAt most (drop at (now (s .entry))) ⌝ }
 {
     if s.len() < at {
         return FoundAmount::Not;

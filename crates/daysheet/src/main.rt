@@ -2,7 +2,7 @@
 // the assessed revenue; or `refused ` and the number. Document 01, "The yearly return".
 use libc::STDIN_FILENO;
 use libc::STDOUT_FILENO;
-use printout::print_return;
+use return_printout::print_return;
 
 // One byte more than the longest return is enough to refuse it.
 const BYTES: usize = 8_193;

@@ -9,12 +9,12 @@ use lib.IntN.{pos, natAbs, _-ℤ_}
 use lib.ListN.{length, drop}
 use Rattle.refusals.specs.declared.Refusal.{Refusal}
 use Rattle.refusals.specs.declared.Refusal.the-variants.{BrokenLog, BadSpan, BadPower, SharedMinute, FullLog, NoSuchStart, BadStretch, BadBook, BadYear, FloorAboveCap, TooLarge, BadPeriod, Malformed, NoRoom}
-use Rattle.refusals.specs.Refusals.{numberOf, answerNumber}
+use Rattle.refusals.specs.Refusals.{refusalNumber, answerNumber}
 use Rattle.refusals.proofs.Laws.{same-refusal, beside-refused}
-use Rattle.calendar.specs.Years.{yearStart, yearEnd, yearRows, minutesNumber, firstFigure, endFigure}
+use Rattle.calendar.specs.Years.{yearStart, yearEnd, minutesRows, minutesNumber, firstFigure, endFigure}
 use Rattle.calendar.proofs.Only.{one-minutes}
-use Rattle.entries.specs.Row.{filed, without}
-use Rattle.outage.specs.Log.{lastRegimeEnd, live, logWith, holding, lostEnergy}
+use Rattle.entries.specs.Row.{putInOrder, without}
+use Rattle.outage.specs.Log.{lastRegimeEnd, logEntries, logWith, logHolding, lostEnergy}
 use Rattle.outage.specs.Calls.{emptyRows, enterRows, cancelRows, lostRows, lostNumber, lostFigure}
 use Rattle.outage.proofs.Only.{one-empty, one-enter, one-cancel, one-lost}
 use Rattle.outage.proofs.Only as logs
@@ -34,16 +34,16 @@ use Rattle.settlement.specs.Gap.{daySum, hundredths}
 use Rattle.settlement.specs.Growth.{growthOf, paidOf}
 use Rattle.settlement.specs.Calls.{gapRows, gapNumber, gapFigure, growthRows, growthNumber, growthFigure, payRows, payNumber, payFigure, settleRows}
 use Rattle.settlement.proofs.Only.{one-gap, one-growth, one-pay, one-settle, one-reconcile}
-use Rattle.filing.specs.Return.{Reading, whole, refused, readingOf, isRefused, placeIn, yearIn, returnOf, writeRows}
-use Rattle.reading.proofs.Only.{one-read}
-use Rattle.writing.specs.Written.{writtenNumber, lengthFigure}
-use Rattle.writing.proofs.Only.{one-write}
-use Rattle.refiling.specs.Refiled.{refileRows}
-use Rattle.refiling.proofs.Only.{one-refile}
-use Rattle.printout.proofs.Only.{one-print}
+use Rattle.return_format.specs.Return.{Reading, whole, refused, readingOf, isRefused, placeIn, yearIn, returnOf, writeRows}
+use Rattle.return_reading.proofs.Only.{one-read}
+use Rattle.return_writing.specs.Written.{writtenNumber, lengthFigure}
+use Rattle.return_writing.proofs.Only.{one-write}
+use Rattle.return_refiling.specs.Refiled.{refileRows}
+use Rattle.return_refiling.proofs.Only.{one-refile}
+use Rattle.return_printout.proofs.Only.{one-print}
 use Rattle.demands.specs.Demand1.{Demand1}
 
-numbers : (why : Refusal) → (1 ≤ numberOf why) × (numberOf why ≤ 14)
+numbers : (why : Refusal) → (1 ≤ refusalNumber why) × (refusalNumber why ≤ 14)
 numbers BrokenLog = omega arith
 numbers BadSpan = omega arith
 numbers BadPower = omega arith
@@ -105,9 +105,9 @@ demand-1 = record {
   write-checks = λ y out r o g v. g .0 ∙ rw v refl;
   numbered = numbers;
   fixed = same-refusal;
-  enter-refused = λ l e r g n. beside-refused (enterRows l e) (answerNumber (r .answer)) (r .log) (logWith l (filed e (live l))) l (g .0) (g .1) n;
-  cancel-refused = λ l key r g n. beside-refused (cancelRows l key) (answerNumber (r .answer)) (r .log) (logWith l (without key (live l))) l (g .0) (g .1) n;
-  empty-refused = λ regimeEnd r g n. beside-refused (emptyRows regimeEnd) (answerNumber (r .answer)) (r .log) (holding regimeEnd []) (holding lastRegimeEnd []) (g .0) (g .1) n;
+  enter-refused = λ l e r g n. beside-refused (enterRows l e) (answerNumber (r .answer)) (r .log) (logWith l (putInOrder e (logEntries l))) l (g .0) (g .1) n;
+  cancel-refused = λ l key r g n. beside-refused (cancelRows l key) (answerNumber (r .answer)) (r .log) (logWith l (without key (logEntries l))) l (g .0) (g .1) n;
+  empty-refused = λ regimeEnd r g n. beside-refused (emptyRows regimeEnd) (answerNumber (r .answer)) (r .log) (logHolding regimeEnd []) (logHolding lastRegimeEnd []) (g .0) (g .1) n;
   write-refused = λ y out r o g n. (
     beside-refused (writeRows y (length out)) (writtenNumber r) o (returnOf y ++ drop (length (returnOf y)) out) out (g .0) (g .2) n,
     beside-refused (writeRows y (length out)) (writtenNumber r) (lengthFigure r) (length (returnOf y)) 0 (g .0) (g .1) n,
@@ -116,10 +116,10 @@ demand-1 = record {
     beside-refused (refileRows bs (length out)) (writtenNumber r) o (bs ++ drop (length bs) out) out (g .0) (g .2) n,
     beside-refused (refileRows bs (length out)) (writtenNumber r) (lengthFigure r) (length bs) 0 (g .0) (g .1) n,
   );
-  lost-refused = λ l a b r g n. beside-refused (lostRows l a b) (lostNumber r) (lostFigure r) (lostEnergy a b (live l)) 0 (g .0) (g .1) n;
+  lost-refused = λ l a b r g n. beside-refused (lostRows l a b) (lostNumber r) (lostFigure r) (lostEnergy a b (logEntries l)) 0 (g .0) (g .1) n;
   minutes-refused = λ number regimeEnd r g n. (
-    beside-refused (yearRows number) (minutesNumber r) (firstFigure r) (yearStart number) 0 (g .0) (g .1) n,
-    beside-refused (yearRows number) (minutesNumber r) (endFigure r) (yearEnd number regimeEnd) 0 (g .0) (g .2) n,
+    beside-refused (minutesRows number) (minutesNumber r) (firstFigure r) (yearStart number) 0 (g .0) (g .1) n,
+    beside-refused (minutesRows number) (minutesNumber r) (endFigure r) (yearEnd number regimeEnd) 0 (g .0) (g .2) n,
   );
   availability-refused = λ book l number r g n. beside-refused (availabilityRows book l number) (availabilityNumber r) (availabilityFigure r) (availabilityIn l number) 0 (g .0) (g .1) n;
   target-refused = λ book l number r g n. beside-refused (availabilityRows book l number) (targetNumber r) (targetMet r) (meetsTarget book l number) false (g .0) (g .1) n;

@@ -10,18 +10,18 @@ use lib.ListN.{length, drop}
 use lib.IntN.{ℤ, pos, negsuc, natAbs, _+ℤ_}
 use lib.Signed.{leZ}
 use Rattle.lists.proofs.Tests.{and-right, not-no}
-use Rattle.refusals.specs.Refusals.{lowest, answerNumber}
+use Rattle.refusals.specs.Refusals.{firstApplicable, answerNumber}
 use Rattle.refusals.proofs.Laws.{all-clear, beside-accepted}
 use Rattle.refusals.proofs.Cases.{same-case}
 use Rattle.money.specs.Rounding.{onMagnitude}
 use Rattle.calendar.specs.declared.YearMinutes.{YearMinutes}
-use Rattle.calendar.specs.Years.{goodYear, firstFigure, endFigure, MinutesGives}
+use Rattle.calendar.specs.Years.{goodYearNumber, firstFigure, endFigure, MinutesGives}
 use Rattle.outage.specs.declared.Log.{Log}
 use Rattle.outage.specs.declared.losing.LostEnergy.{LostEnergy}
-use Rattle.outage.specs.Log.{mostMw, validLog, live, lostEnergy}
+use Rattle.outage.specs.Log.{mostMw, validLog, logEntries, lostEnergy}
 use Rattle.outage.specs.Calls.{lostFigure, LostGives}
 use Rattle.year.specs.declared.Year.{Year}
-use Rattle.year.specs.Year.{goodYearRecord}
+use Rattle.year.specs.Year.{goodYear}
 use Rattle.year.proofs.Says.{year-says}
 use Rattle.levels.specs.declared.Book.{Book}
 use Rattle.levels.specs.declared.measuring.Availability.{Availability}
@@ -45,24 +45,24 @@ use Rattle.settlement.specs.declared.medians.Gap.{Gap}
 use Rattle.settlement.specs.declared.table.Growth.{Growth}
 use Rattle.settlement.specs.declared.paying.Payment.{Payment}
 use Rattle.settlement.specs.Gap.{goodPeriod, daySum, hundredths, goodHundredths}
-use Rattle.settlement.specs.Growth.{entries, growsTo, growthOf, paidOf}
+use Rattle.settlement.specs.Growth.{growthEntries, growsTo, growthOf, paidOf}
 use Rattle.settlement.specs.Exact.{NearExact}
 use Rattle.settlement.specs.Calls.{gapHolds, gapRows, gapNumber, gapFigure, GapGives, growthRows, growthNumber, growthFigure, GrowthGives, payRows, payNumber, payFigure, PayGives, settleRows, SettleGives}
 use Rattle.settlement.proofs.Payments.{no-half, nearest, only-nearest, passing, passes, entry-rule, entry-greatest, near-paid}
 use Rattle.codec.specs.Numbers.{Bytes}
 use Rattle.codec.specs.Fields.{joined}
-use Rattle.filing.specs.declared.Return.{Return}
-use Rattle.filing.specs.Return.{mostBytes, Reading, whole, refused, readingOf, isRefused, placeIn, returnOf, writeRows}
-use Rattle.round_trip.specs.Flat.{fieldsOf}
-use Rattle.round_trip.specs.Places.{Stands}
-use Rattle.round_trip.proofs.Places.{accepted-filed, filed-accepted, same-bytes, stands, stands-alone, longer-stands, one-place}
-use Rattle.round_trip.proofs.Flat.{flat, flat-whole, tags-ascend}
-use Rattle.reading.specs.Reading.{ReturnGives}
-use Rattle.writing.specs.declared.Written.{Written}
-use Rattle.writing.specs.declared.Written.the-variants.{Length}
-use Rattle.writing.specs.Written.{writtenNumber, lengthFigure, WriteGives}
-use Rattle.writing.proofs.Only.{written-answers}
-use Rattle.refiling.specs.Refiled.{refileRows, RefileGives}
+use Rattle.return_format.specs.declared.Return.{Return}
+use Rattle.return_format.specs.Return.{mostBytes, Reading, whole, refused, readingOf, isRefused, placeIn, returnOf, writeRows}
+use Rattle.return_round_trip.specs.Flat.{fieldsOf}
+use Rattle.return_round_trip.specs.Places.{RefusalPlace}
+use Rattle.return_round_trip.proofs.Places.{return-accepted, accepted-return, same-bytes, refusal-place, place-alone, longer-refused, one-place}
+use Rattle.return_round_trip.proofs.Flat.{flat, flat-whole, tags-ascend}
+use Rattle.return_reading.specs.Reading.{ReturnGives}
+use Rattle.return_writing.specs.declared.Written.{Written}
+use Rattle.return_writing.specs.declared.Written.the-variants.{Length}
+use Rattle.return_writing.specs.Written.{writtenNumber, lengthFigure, WriteGives}
+use Rattle.return_writing.proofs.Only.{written-answers}
+use Rattle.return_refiling.specs.Refiled.{refileRows, RefileGives}
 use Rattle.demands.specs.Demand2.{Carried, NearSums, Demand2}
 use Rattle.demands.proofs.Lost.{first-is, end-is, year-lost, year-most}
 use Rattle.demands.proofs.Returns.{written-reads-back, read-writes-back}
@@ -74,8 +74,8 @@ availability-is : (book : Book) (log : Log) (number : ℕ) (r : Availability) �
 availability-is book log number r g n y m l k =
     let clear = all-clear (availabilityRows book log number) (sym (g .0) ∙ n) in
     let v : validLog log ≡ true = not-no (validLog log) (clear .1 .0) in
-    let good : goodYear number ≡ true = not-no (goodYear number) (clear .1 .1 .0) in
-    let is : availabilityFigure r ≡ mostMw * (endFigure y - firstFigure y) - lostEnergy (firstFigure y) (endFigure y) (live log) =
+    let good : goodYearNumber number ≡ true = not-no (goodYearNumber number) (clear .1 .1 .0) in
+    let is : availabilityFigure r ≡ mostMw * (endFigure y - firstFigure y) - lostEnergy (firstFigure y) (endFigure y) (logEntries log) =
     beside-accepted (availabilityRows book log number) (availabilityNumber r) (availabilityFigure r) (availabilityIn log number) 0 (g .0) (g .1) n
     ∙ rw (first-is log v number good y m, end-is log v number good y m) refl in
     omega (arith, is, ap lostFigure (year-lost log v number good y m l k), year-most log v number good y m)
@@ -83,7 +83,7 @@ availability-is book log number r g n y m l k =
 target-is : (book : Book) (log : Log) (number : ℕ) (r : Target) → TargetGives book log number r → targetNumber r ≡ 0
     → (a : Availability) → AvailabilityGives book log number a → targetMet r ≡ leb (60 * targetOf book number) (availabilityFigure a)
 target-is book log number r g n a h =
-    let clear : lowest (availabilityRows book log number) ≡ 0 = sym (g .0) ∙ n in
+    let clear : firstApplicable (availabilityRows book log number) ≡ 0 = sym (g .0) ∙ n in
     beside-accepted (availabilityRows book log number) (targetNumber r) (targetMet r) (meetsTarget book log number) false (g .0) (g .1) n
     ∙ ap (λ (x : ℕ). leb (60 * targetOf book number) x)
     (sym (beside-accepted (availabilityRows book log number) (availabilityNumber a) (availabilityFigure a) (availabilityIn log number) 0 (h .0) (h .1) (h .0 ∙ clear)))
@@ -99,7 +99,7 @@ module _ (book : Book) (y : Year) (log : Log) (r : Levels) (g : LevelsGives book
       let clear = all-clear (levelsRows book y log) (sym (g .0) ∙ n) in
       let b : bookHolds book (log .«regime_end») ≡ true = not-no (bookHolds book (log .«regime_end»)) (clear .0) in
       let v : validLog log ≡ true = not-no (validLog log) (clear .1 .0) in
-      let good : goodYear (y .number) ≡ true = year-says y (not-no (goodYearRecord y) (clear .1 .1 .0)) .number in
+      let good : goodYearNumber (y .number) ≡ true = year-says y (not-no (goodYear y) (clear .1 .1 .0)) .number in
       h .1 ∙ rw (b, v, good) refl
 
   floor-is : (t : Target) → TargetGives book log (y .number) t
@@ -113,12 +113,12 @@ module _ (book : Book) (y : Year) (log : Log) (r : Levels) (g : LevelsGives book
 module _ (y : Yearly) (r : Assessment) (g : AssessGives y r) (n : assessNumber r ≡ 0) where
   figures-carried : Carried y (assessFigures r)
   figures-carried =
-      subst (Carried y) (sym (answered-figures y periodYears r g n)) (record { revenue = refl; cap = refl; floor = refl; within = refl; held = refl; adjustment = refl })
+      subst (Carried y) (sym (answered-figures y periodYears r g n)) (record { revenue = refl; cap = refl; floor = refl; wpa = refl; held = refl; adjustment = refl })
 
   figures-near : NearSums y (assessFigures r)
   figures-near =
       let near = answered-near y periodYears r g n in
-      subst (NearSums y) (sym (answered-figures y periodYears r g n)) (record { revenue = near .revenue; cap = near .cap; floor = near .floor; within = near .within })
+      subst (NearSums y) (sym (answered-figures y periodYears r g n)) (record { revenue = near .revenue; cap = near .cap; floor = near .floor; wpa = near .wpa })
 
 -- ---- settlement
 not-negative : (z : ℤ) → goodHundredths z ≡ true → pos (natAbs z) ≡ z
@@ -142,8 +142,8 @@ module _ (k : ℕ) (r : Growth) (g : GrowthGives k r) (n : growthNumber r ≡ 0)
   entry-is : growthFigure r ≡ growthOf k
   entry-is = beside-accepted (growthRows k) (growthNumber r) (growthFigure r) (growthOf k) 0 (g .0) (g .1) n
 
-  in-table : k < entries
-  in-table = ltb-true k entries (not-no (ltb k entries) (all-clear (growthRows k) (sym (g .0) ∙ n) .0))
+  in-table : k < growthEntries
+  in-table = ltb-true k growthEntries (not-no (ltb k growthEntries) (all-clear (growthRows k) (sym (g .0) ∙ n) .0))
 
   growth-rule : (growthFigure r ^ 100 * 10000 ^ k ≤ 10 ^ 900 * 10388 ^ k) × ((e : ℕ) → e ^ 100 * 10000 ^ k ≤ 10 ^ 900 * 10388 ^ k → e ≤ growthFigure r)
   growth-rule = (
@@ -152,8 +152,8 @@ module _ (k : ℕ) (r : Growth) (g : GrowthGives k r) (n : growthNumber r ≡ 0)
   )
 
 module _ (amount : ℤ) (k : ℕ) (r : Payment) (g : PayGives amount k r) (n : payNumber r ≡ 0) where
-  paid-in-table : ltb k entries ≡ true
-  paid-in-table = not-no (ltb k entries) (all-clear (payRows amount k) (sym (g .0) ∙ n) .0)
+  paid-in-table : ltb k growthEntries ≡ true
+  paid-in-table = not-no (ltb k growthEntries) (all-clear (payRows amount k) (sym (g .0) ∙ n) .0)
 
   paid-is : payFigure r ≡ paidOf amount k
   paid-is = beside-accepted (payRows amount k) (payNumber r) (payFigure r) (paidOf amount k) (pos 0) (g .0) (g .1) n
@@ -161,11 +161,11 @@ module _ (amount : ℤ) (k : ℕ) (r : Payment) (g : PayGives amount k r) (n : p
   payment-is : (e : Growth) → GrowthGives k e → payFigure r ≡ onMagnitude (λ (m : ℕ). m * growthFigure e / 1000000000) amount
   unfolding paidOf
   payment-is e h =
-      let zero-too : lowest (growthRows k) ≡ 0 = rw paid-in-table refl in
+      let zero-too : firstApplicable (growthRows k) ≡ 0 = rw paid-in-table refl in
       paid-is ∙ ap (λ (x : ℕ). onMagnitude (λ (m : ℕ). m * x / 1000000000) amount) (sym (entry-is k e h (h .0 ∙ zero-too)))
 
   payment-is-near : NearExact (natAbs amount) k (natAbs (payFigure r))
-  payment-is-near = subst (λ (z : ℤ). NearExact (natAbs amount) k (natAbs z)) (sym paid-is) (near-paid amount k (ltb-true k entries paid-in-table))
+  payment-is-near = subst (λ (z : ℤ). NearExact (natAbs amount) k (natAbs z)) (sym paid-is) (near-paid amount k (ltb-true k growthEntries paid-in-table))
 
 settled-is : (adjustment : ℤ) (measured settled : Period) (r : Payment) → SettleGives adjustment measured settled r → payNumber r ≡ 0
     → (g : Gap) → GapGives measured settled g → PayGives adjustment (gapFigure g) r
@@ -176,16 +176,16 @@ settled-is adjustment measured settled r s n g h =
     let none : gapNumber g ≡ 0 = h .0 ∙ rw holds refl in
     let is = figure-is measured settled g h none in
     let good : goodHundredths z ≡ true = and-right (goodPeriod settled) (goodHundredths z) (and-right (goodPeriod measured) (goodPeriod settled && goodHundredths z) holds) in
-    let short : ltb (gapFigure g) entries ≡ true = ap (λ (x : ℕ). ltb x entries) is ∙ in-range z good in
-    let zero-too : lowest (payRows adjustment (gapFigure g)) ≡ 0 = rw (short, clear .1 .0) refl in (
+    let short : ltb (gapFigure g) growthEntries ≡ true = ap (λ (x : ℕ). ltb x growthEntries) is ∙ in-range z good in
+    let zero-too : firstApplicable (payRows adjustment (gapFigure g)) ≡ 0 = rw (short, clear .1 .0) refl in (
       n ∙ sym zero-too,
       beside-accepted (settleRows adjustment measured settled) (payNumber r) (payFigure r) (paidOf adjustment (natAbs z)) (pos 0) (s .0) (s .1) n
           ∙ ap (paidOf adjustment) (sym is)
           ∙ rw zero-too refl,
     )
   where
-    in-range : (x : ℤ) → goodHundredths x ≡ true → ltb (natAbs x) entries ≡ true
-    in-range (pos k) e = lt-ltb k entries (omega (arith, leb-true k 499 (and-right (leZ (pos 0) (pos k)) (leZ (pos k) (pos 499)) e)))
+    in-range : (x : ℤ) → goodHundredths x ≡ true → ltb (natAbs x) growthEntries ≡ true
+    in-range (pos k) e = lt-ltb k growthEntries (omega (arith, leb-true k 499 (and-right (leZ (pos 0) (pos k)) (leZ (pos k) (pos 499)) e)))
     in-range (negsuc k) e = let no : _≡_ {A = ℕ} 0 1 = cc in absurd (omega arith)
 
 -- ---- the return
@@ -203,15 +203,15 @@ flat-is y out r o g n =
 
 module _ (bs : List ℕ) (t : Return) (g : ReturnGives bs t) where
   -- a refused reading is one at the place that is given
-  stands-there : (x : Reading) → readingOf bs ≡ x → Bytes bs → (answerNumber (t .answer) ≡ 0 → ⊥) → length bs ≤ mostBytes → Stands bs (t .place) × ((other : ℕ) → Stands bs other → other ≡ t .place)
-  stands-there (whole y) e b n h = absurd (n (g .0 ∙ ap (λ (x : Reading). cond (isRefused x) 13 0) e))
-  stands-there (refused why place) e b n h =
+  place-there : (x : Reading) → readingOf bs ≡ x → Bytes bs → (answerNumber (t .answer) ≡ 0 → ⊥) → length bs ≤ mostBytes → RefusalPlace bs (t .place) × ((other : ℕ) → RefusalPlace bs other → other ≡ t .place)
+  place-there (whole y) e b n h = absurd (n (g .0 ∙ ap (λ (x : Reading). cond (isRefused x) 13 0) e))
+  place-there (refused why place) e b n h =
       let f : readingOf bs ≡ refused why (t .place) = e ∙ ap (refused why) (sym (g .1 ∙ ap placeIn e)) in
-      (stands bs why (t .place) b h f, stands-alone bs b h why (t .place) f)
+      (refusal-place bs why (t .place) b h f, place-alone bs b h why (t .place) f)
 
   longer-is : mostBytes < length bs → (answerNumber (t .answer) ≡ 13) × (t .place ≡ mostBytes)
   longer-is h =
-      let e = longer-stands bs h in
+      let e = longer-refused bs h in
       (g .0 ∙ ap (λ (x : Reading). cond (isRefused x) 13 0) e, g .1 ∙ ap placeIn e)
 
 pub demand-2 : Demand2
@@ -245,12 +245,12 @@ demand-2 = record {
   written-read = written-reads-back;
   read-written = read-writes-back;
   refiled = refiled-is;
-  is-return = λ bs b t g. (λ n. filed-accepted bs b (sym (g .0) ∙ n), λ f. g .0 ∙ accepted-filed (f .year) bs (f .files));
+  is-return = λ bs b t g. (λ n. accepted-return bs b (sym (g .0) ∙ n), λ f. g .0 ∙ return-accepted (f .year) bs (f .return-of));
   same-bytes = same-bytes;
   whole-fields = flat-whole;
   flat = flat-is;
   tags = λ bs b t g n. tags-ascend bs b (sym (g .0) ∙ n);
-  place = λ bs b t g n h. stands-there bs t g (readingOf bs) refl b n h;
+  place = λ bs b t g n h. place-there bs t g (readingOf bs) refl b n h;
   one-place = one-place;
   longer = longer-is;
 }

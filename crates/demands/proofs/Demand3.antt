@@ -10,21 +10,21 @@ use Rattle.lists.proofs.Tests.{not-no}
 use Rattle.lists.proofs.Lists.{sum-same}
 use Rattle.refusals.proofs.Laws.{all-clear}
 use Rattle.calendar.specs.declared.YearMinutes.{YearMinutes}
-use Rattle.calendar.specs.Years.{goodYear, yearRows, minutesNumber, firstFigure, endFigure, MinutesGives}
+use Rattle.calendar.specs.Years.{goodYearNumber, minutesRows, minutesNumber, firstFigure, endFigure, MinutesGives}
 use Rattle.entries.specs.declared.Entry.{Entry}
 use Rattle.entries.specs.Row.{sameEntry, covers, lostIn}
 use Rattle.outage.specs.declared.Log.{Log}
 use Rattle.outage.specs.declared.Logged.{Logged}
 use Rattle.outage.specs.declared.losing.LostEnergy.{LostEnergy}
 use Rattle.outage.specs.declared.losing.LostEnergy.the-variants.{MwMinutes}
-use Rattle.outage.specs.Log.{mostMw, validLog, live, lostEnergy}
+use Rattle.outage.specs.Log.{mostMw, validLog, logEntries, lostEnergy}
 use Rattle.outage.specs.Calls.{EmptyGives, lostFigure, LostGives}
-use Rattle.outage.proofs.Holding.{live-length}
+use Rattle.outage.proofs.LogHolding.{log-entries-length}
 use Rattle.entries.proofs.Minutes.{shares-says, shares-made}
 use Rattle.demands.specs.Log.{Turn, RanFrom, logAfter, acceptedNotCancelled}
 use Rattle.demands.specs.Demand3.{Demand3}
 use Rattle.demands.proofs.Lost.{by-minutes, parts-add, year-lost, year-most}
-use Rattle.demands.proofs.Standing.{run-stands}
+use Rattle.demands.proofs.NotCancelled.{run-agrees}
 use Rattle.demands.proofs.Slots.{in-order, none-shared, free-zero}
 
 ones : (es : List Entry) → total (λ (x : Entry). 1) es ≡ length es
@@ -36,21 +36,21 @@ year-bound : (log : Log) → validLog log ≡ true → (number : ℕ) (y : YearM
     → (r : LostEnergy) → LostGives log (firstFigure y) (endFigure y) r
     → (r ≡ MwMinutes (lostFigure r)) × (lostFigure r ≤ mostMw * (endFigure y - firstFigure y))
 year-bound log v number y m n r g =
-    let good : goodYear number ≡ true = not-no (goodYear number) (all-clear (yearRows number) (sym (m .0) ∙ n) .0) in
+    let good : goodYearNumber number ≡ true = not-no (goodYearNumber number) (all-clear (minutesRows number) (sym (m .0) ∙ n) .0) in
     let e = year-lost log v number good y m r g in
-    let f : lostFigure r ≡ lostEnergy (firstFigure y) (endFigure y) (live log) = ap lostFigure e in
+    let f : lostFigure r ≡ lostEnergy (firstFigure y) (endFigure y) (logEntries log) = ap lostFigure e in
     (e ∙ ap MwMinutes (sym f), omega (arith, f, year-most log v number good y m))
 
 -- ---- the demand
 pub demand-3 : (regimeEnd : ℕ) (made : Logged) → EmptyGives regimeEnd made → (turns : List Turn) → RanFrom (made .log) turns
     → Demand3 regimeEnd (logAfter (made .log) turns) (acceptedNotCancelled turns)
 demand-3 regimeEnd made m turns g =
-    let k = run-stands regimeEnd made m turns g in
+    let k = run-agrees regimeEnd made m turns g in
     let log = logAfter (made .log) turns in
     let es = acceptedNotCancelled turns in
     record {
       exactly = λ x. k .same (λ (y : Entry). cond (sameEntry x y) 1 0);
-      counted = sym (live-length log (k .sound .rows) (k .sound .valid)) ∙ sym (ones (live log)) ∙ k .same (λ (x : Entry). 1) ∙ ones es;
+      counted = sym (log-entries-length log (k .sound .rows) (k .sound .valid)) ∙ sym (ones (logEntries log)) ∙ k .same (λ (x : Entry). 1) ∙ ones es;
       slotted = k .sound .rows;
       end = k .end;
       valid = k .sound .valid;
@@ -60,11 +60,11 @@ demand-3 regimeEnd made m turns g =
       free = free-zero log (k .sound);
       minutes = λ a b h l r q.
           by-minutes log (k .sound .valid) a b h l r q
-          ∙ ap MwMinutes (sum-same (lostIn (live log)) (lostIn es) a (b - a) (λ t. k .same (λ (x : Entry). cond (covers t x) (x .mw) 0)));
+          ∙ ap MwMinutes (sum-same (lostIn (logEntries log)) (lostIn es) a (b - a) (λ t. k .same (λ (x : Entry). cond (covers t x) (x .mw) 0)));
       cut = λ a mid b h l z first second whole p q r.
-          let x : lostFigure first ≡ lostEnergy a mid (live log) = ap lostFigure (by-minutes log (k .sound .valid) a mid h (omega arith) first p) in
-          let y : lostFigure second ≡ lostEnergy mid b (live log) = ap lostFigure (by-minutes log (k .sound .valid) mid b l z second q) in
-          let w : lostFigure whole ≡ lostEnergy a b (live log) = ap lostFigure (by-minutes log (k .sound .valid) a b (omega arith) z whole r) in
+          let x : lostFigure first ≡ lostEnergy a mid (logEntries log) = ap lostFigure (by-minutes log (k .sound .valid) a mid h (omega arith) first p) in
+          let y : lostFigure second ≡ lostEnergy mid b (logEntries log) = ap lostFigure (by-minutes log (k .sound .valid) mid b l z second q) in
+          let w : lostFigure whole ≡ lostEnergy a b (logEntries log) = ap lostFigure (by-minutes log (k .sound .valid) a b (omega arith) z whole r) in
           omega (arith, x, y, w, parts-add log (k .sound .valid) a mid b h l);
       year = year-bound log (k .sound .valid);
     }

@@ -7,15 +7,15 @@ use native.Mathlib.Omega.{arith}
 use lib.Dec.{leb, eqb, leb·zero, lit≤}
 use lib.IntN.{ℤ, pos, negsuc, negℤ}
 use lib.ListN.{getD}
-use Rattle.refusals.specs.Refusals.{lowest}
+use Rattle.refusals.specs.Refusals.{firstApplicable}
 use Rattle.refusals.specs.declared.Refusal.the-variants.{BadBook, BrokenLog, BadYear, TooLarge, BadPeriod}
 use Rattle.money.specs.Rounding.{upOf, roundDiv, onMagnitude, roundZ}
 use Rattle.calendar.specs.Years.{daysTo, yearStart, yearEnd}
 use Rattle.entries.specs.Row.{validRow}
 use Rattle.outage.specs.declared.Log.{Log}
-use Rattle.outage.specs.Log.{validLog, lastRegimeEnd, live, mostMw}
+use Rattle.outage.specs.Log.{validLog, lastRegimeEnd, logEntries, mostMw}
 use Rattle.entries.proofs.Minutes.{by-minutes, energyOf}
-use Rattle.year.specs.Year.{goodYearRecord}
+use Rattle.year.specs.Year.{goodYear}
 use Rattle.levels.specs.Book.{publishedBook, goodBook, bookHolds, targetOf}
 use Rattle.levels.specs.Availability.{availabilityIn, meetsTarget, availabilityRows, targetGiven, TargetGives}
 use Rattle.levels.specs.Levels.{timesOf, levelOf, capLevel, floorLevel, floorOf, levelFits, levelsRows, LevelsGives}
@@ -56,10 +56,10 @@ floor-figure = floor-met ∙ refl
 
 -- its rows, with the two levels that are tested
 none-applies : (cap floor : ℤ) → levelFits cap ≡ true → levelFits floor ≡ true
-    → lowest
+    → firstApplicable
     ((BadBook, not (bookHolds publishedBook lastRegimeEnd))
     ∷ (BrokenLog, not (validLog noOutage))
-    ∷ (BadYear, not (goodYearRecord markedYear))
+    ∷ (BadYear, not (goodYear markedYear))
     ∷ (TooLarge, not (levelFits cap && levelFits floor))
     ∷ [])
     ≡ 0
@@ -68,7 +68,7 @@ none-applies cap floor c f = rw (c, f) refl
 
 marked-levels : LevelsGives publishedBook markedYear noOutage (levels.Pounds (pos 94030783) (pos 53688049))
 marked-levels =
-    let clear : lowest (levelsRows publishedBook markedYear noOutage) ≡ 0 =
+    let clear : firstApplicable (levelsRows publishedBook markedYear noOutage) ≡ 0 =
     none-applies (capLevel publishedBook markedYear) (floorOf publishedBook markedYear noOutage) (ap levelFits cap-figure) (ap levelFits floor-figure) in (
       sym clear,
       sym cap-figure ∙ sym (ap (λ (n : ℕ). cond (eqb n 0) (capLevel publishedBook markedYear) (pos 0)) clear),
@@ -79,13 +79,13 @@ marked-levels =
 -- the target, entry by entry
 by-entries : (log : Log) (number : ℕ)
     → meetsTarget publishedBook log number
-    ≡ leb (60 * targetOf publishedBook number) (mostMw * (yearEnd number (log .«regime_end») - yearStart number) - energyOf (yearStart number) (yearEnd number (log .«regime_end»)) (live log))
+    ≡ leb (60 * targetOf publishedBook number) (mostMw * (yearEnd number (log .«regime_end») - yearStart number) - energyOf (yearStart number) (yearEnd number (log .«regime_end»)) (logEntries log))
 by-entries log number =
     ap (λ (x : ℕ). leb (60 * targetOf publishedBook number) (mostMw * (yearEnd number (log .«regime_end») - yearStart number) - x))
-    (sym (by-minutes (yearStart number) (yearEnd number (log .«regime_end»)) (live log)))
+    (sym (by-minutes (yearStart number) (yearEnd number (log .«regime_end»)) (logEntries log)))
 
 -- where no row applies, what is given is whether the target is met
-module _ (log : Log) (number : ℕ) (clear : lowest (availabilityRows publishedBook log number) ≡ 0) where
+module _ (log : Log) (number : ℕ) (clear : firstApplicable (availabilityRows publishedBook log number) ≡ 0) where
   given-as : (met : Bool) → meetsTarget publishedBook log number ≡ met → met ≡ targetGiven publishedBook log number
   given-as met e = sym e ∙ sym (ap (λ (n : ℕ). cond (eqb n 0) (meetsTarget publishedBook log number) false) clear)
 
@@ -110,11 +110,11 @@ unfolding upOf roundDiv onMagnitude roundZ carryOf
 carries = refl
 
 -- ---- an assessment
-accepted : lowest (assessRows fiveYears) ≡ 0
+accepted : firstApplicable (assessRows fiveYears) ≡ 0
 unfolding upOf roundDiv onMagnitude roundZ carryOf balanceAfter laterWithin goodAmounts notNegative
 accepted = refl
 
-figures : assessGiven fiveYears .revenue ∷ assessGiven fiveYears .cap ∷ assessGiven fiveYears .within ∷ assessGiven fiveYears .adjustment ∷ [] ≡ pos 5403349 ∷ pos 4863014 ∷ negℤ (pos 112098) ∷ negℤ (pos 428237) ∷ []
+figures : assessGiven fiveYears .revenue ∷ assessGiven fiveYears .cap ∷ assessGiven fiveYears .wpa ∷ assessGiven fiveYears .adjustment ∷ [] ≡ pos 5403349 ∷ pos 4863014 ∷ negℤ (pos 112098) ∷ negℤ (pos 428237) ∷ []
 unfolding upOf roundDiv onMagnitude roundZ carryOf balanceAfter laterWithin goodAmounts notNegative heldBetween
 figures = refl
 
@@ -183,7 +183,7 @@ five-figures r g = record {
   accepted = g .0 ∙ accepted;
   revenue = ap (λ (f : Figures). f .revenue) (g .1) ∙ place 0 figures;
   cap = ap (λ (f : Figures). f .cap) (g .1) ∙ place 1 figures;
-  within = ap (λ (f : Figures). f .within) (g .1) ∙ place 2 figures;
+  wpa = ap (λ (f : Figures). f .wpa) (g .1) ∙ place 2 figures;
   adjustment = ap (λ (f : Figures). f .adjustment) (g .1) ∙ place 3 figures;
 }
 

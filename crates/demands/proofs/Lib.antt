@@ -1,7 +1,7 @@
 -- The demands, each in a file of its own, the laws that they rest on, and the marked figures.
 pub mod Runs
 pub mod Keeping
-pub mod Standing
+pub mod NotCancelled
 pub mod Slots
 pub mod Lost
 pub mod Returns

@@ -9,30 +9,30 @@ use lib.ListN.{length, take, drop}
 use lib.Seq.{take-at}
 use Rattle.lists.proofs.Tests.{and-left, and-right, and-made, not-no}
 use Rattle.refusals.specs.declared.Answer.the-variants.{Done}
-use Rattle.refusals.specs.Refusals.{accepted, lowest}
+use Rattle.refusals.specs.Refusals.{accepted, firstApplicable}
 use Rattle.refusals.proofs.Laws.{all-clear, done-clear}
 use Rattle.outage.specs.Log.{slots, validLog}
 use Rattle.year.specs.declared.Year.{Year}
 use Rattle.year.specs.Year.{lineSlots}
 use Rattle.codec.specs.Numbers.{Bytes}
-use Rattle.filing.specs.declared.Return.{Return}
-use Rattle.filing.specs.Return.{Reading, whole, readingOf, isRefused, placeIn, yearIn, readRows, readYear, fileable, validYear, returnOf, writeRows}
-use Rattle.reading.specs.Reading.{ReturnGives}
-use Rattle.reading.proofs.Only.{only-read}
-use Rattle.writing.specs.declared.Written.{Written}
-use Rattle.writing.specs.declared.Written.the-variants.{Length}
+use Rattle.return_format.specs.declared.Return.{Return}
+use Rattle.return_format.specs.Return.{Reading, whole, readingOf, isRefused, placeIn, yearIn, readRows, readYear, writable, validYear, returnOf, writeRows}
+use Rattle.return_reading.specs.Reading.{ReturnGives}
+use Rattle.return_reading.proofs.Only.{only-read}
+use Rattle.return_writing.specs.declared.Written.{Written}
+use Rattle.return_writing.specs.declared.Written.the-variants.{Length}
 use Rattle.refusals.proofs.Cases.{same-case}
-use Rattle.writing.proofs.Only.{written-answers}
-use Rattle.writing.specs.Written.{WriteGives}
-use Rattle.round_trip.proofs.RoundTrip.{written-read, accepted-whole, read-written}
+use Rattle.return_writing.proofs.Only.{written-answers}
+use Rattle.return_writing.specs.Written.{WriteGives}
+use Rattle.return_round_trip.proofs.RoundTrip.{written-read, accepted-whole, read-written}
 
 -- A year, with its 64 line slots and 400 entry slots, that was written: what was written reads back as the year.
 module _ (y : Year) (row : length (y .lines) ≡ lineSlots) (slotted : length (y .log .entries) ≡ slots) where
   pub written-reads-back : (out o : List ℕ) (n : ℕ) → WriteGives y out (Length n) o → (t : Return) → ReturnGives (take n o) t → t ≡ record { answer = Done; place = 0; year = y }
   written-reads-back out o n g t r =
       let clear = all-clear (writeRows y (length out)) (sym (g .0)) in
-      let yes : accepted (writeRows y (length out)) ≡ true = eq-eqb (lowest (writeRows y (length out))) 0 (sym (g .0)) in
-      let valid : validYear y ≡ true = and-made (not-no (validLog (y .log)) (clear .0)) (not-no (fileable y) (clear .1 .0)) in
+      let yes : accepted (writeRows y (length out)) ≡ true = eq-eqb (firstApplicable (writeRows y (length out))) 0 (sym (g .0)) in
+      let valid : validYear y ≡ true = and-made (not-no (validLog (y .log)) (clear .0)) (not-no (writable y) (clear .1 .0)) in
       let long : n ≡ length (returnOf y) = g .1 ∙ ap (λ (b : Bool). cond b (length (returnOf y)) 0) yes in
       let is : o ≡ returnOf y ++ drop (length (returnOf y)) out = g .2 ∙ ap (λ (b : Bool). cond b (returnOf y ++ drop (length (returnOf y)) out) out) yes in
       let front : take n o ≡ returnOf y = ap (take n) is ∙ take-at (returnOf y) (drop (length (returnOf y)) out) n (sym long) in
@@ -45,12 +45,12 @@ module _ (bs : List ℕ) (b : Bytes bs) where
   pub read-writes-back : (t : Return) → ReturnGives bs t → t .answer ≡ Done → (out o : List ℕ) (r : Written) → WriteGives (t .year) out r o → length bs ≤ length out
       → (r ≡ Length (length bs)) × (o ≡ bs ++ drop (length bs) out)
   read-writes-back t g done out o r w room =
-      let clear : lowest (readRows bs) ≡ 0 = done-clear (t .answer) (readRows bs) (g .0) done in
+      let clear : firstApplicable (readRows bs) ≡ 0 = done-clear (t .answer) (readRows bs) (g .0) done in
       let k = read-written bs (readYear bs) b (accepted-whole bs clear) in
       let y = t .year in
       let valid : validYear y ≡ true = ap validYear (g .2) ∙ k .1 in
-      let sound : validLog (y .log) ≡ true = and-left (validLog (y .log)) (fileable y) valid in
-      let good : fileable y ≡ true = and-right (validLog (y .log)) (fileable y) valid in
+      let sound : validLog (y .log) ≡ true = and-left (validLog (y .log)) (writable y) valid in
+      let good : writable y ≡ true = and-right (validLog (y .log)) (writable y) valid in
       let bytes : returnOf y ≡ bs = ap returnOf (g .2) ∙ k .0 in
       let v : WriteGives y out r o = w in
       let z = rw (sound, good, bytes, le-ltb (length out) (length bs) room) at v in

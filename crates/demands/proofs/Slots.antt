@@ -13,11 +13,11 @@ use Rattle.lists.proofs.Lists.{all-at, pairwise-at}
 use Rattle.entries.specs.declared.Entry.{Entry}
 use Rattle.outage.specs.declared.Log.{Log}
 use Rattle.entries.specs.Row.{BothCover, goodEntry, notBefore, sharesMinute, isZero, zeroEntry}
-use Rattle.outage.specs.Log.{slots, rowOf, live}
+use Rattle.outage.specs.Log.{slots, rowOf, logEntries}
 use Rattle.entries.proofs.Order.{good-span, in-turn, apart-says}
 use Rattle.entries.proofs.Keys.{ahead, keys-ascend}
 use Rattle.entries.proofs.Rows.{Valid, valid-says, zero-is}
-use Rattle.outage.proofs.Holding.{live-length}
+use Rattle.outage.proofs.LogHolding.{log-entries-length}
 use Rattle.demands.specs.Log.{slot}
 use Rattle.demands.proofs.Keeping.{Sound}
 
@@ -26,29 +26,29 @@ module _ (log : Log) (o : Sound log) where
   whole = valid-says (rowOf log) (o .valid)
 
   -- a slot before the count is an entry
-  at-live : (i : ℕ) → i < log .count → getD (live log) i zeroEntry ≡ slot log i
-  at-live i h = getD-take (log .count) (log .entries) i zeroEntry h
+  at-entry : (i : ℕ) → i < log .count → getD (logEntries log) i zeroEntry ≡ slot log i
+  at-entry i h = getD-take (log .count) (log .entries) i zeroEntry h
 
-  count-live : (i : ℕ) → i < log .count → i < length (live log)
-  count-live i h = omega (arith, live-length log (o .rows) (o .valid))
+  count-entry : (i : ℕ) → i < log .count → i < length (logEntries log)
+  count-entry i h = omega (arith, log-entries-length log (o .rows) (o .valid))
 
   good-at : (i : ℕ) → i < log .count → goodEntry (log .«regime_end») (slot log i) ≡ true
-  good-at i h = rw (at-live i h) at (all-at (goodEntry (log .«regime_end»)) zeroEntry (live log) (whole .kept .good) i (count-live i h))
+  good-at i h = rw (at-entry i h) at (all-at (goodEntry (log .«regime_end»)) zeroEntry (logEntries log) (whole .rules .good) i (count-entry i h))
 
   -- an entry ends before a later one starts
   ends-before : (i j : ℕ) → i < j → j < log .count → slot log i .end ≤ slot log j .start
   ends-before i j h k =
       let m : i < log .count = omega arith in
-      let r = pairwise-at notBefore zeroEntry (live log) (whole .kept .order) i j h (count-live j k) in
-      let q = pairwise-at (λ (x y : Entry). not (sharesMinute x y)) zeroEntry (live log) (whole .kept .shared) i j h (count-live j k) in
+      let r = pairwise-at notBefore zeroEntry (logEntries log) (whole .rules .order) i j h (count-entry j k) in
+      let q = pairwise-at (λ (x y : Entry). not (sharesMinute x y)) zeroEntry (logEntries log) (whole .rules .shared) i j h (count-entry j k) in
       apart-says (slot log i) (slot log j) (good-span (log .«regime_end») (slot log i) (good-at i m)) (good-span (log .«regime_end») (slot log j) (good-at j k))
-      (in-turn (slot log i) (slot log j) (rw (at-live i m, at-live j k) at r))
-      (rw (at-live i m, at-live j k) at q)
+      (in-turn (slot log i) (slot log j) (rw (at-entry i m, at-entry j k) at r))
+      (rw (at-entry i m, at-entry j k) at q)
 
   pub in-order : (i j : ℕ) → i < j → j < log .count → slot log i .start < slot log j .start
   in-order i j h k =
-      let r = pairwise-at ahead zeroEntry (live log) (keys-ascend (log .«regime_end») (live log) (whole .kept)) i j h (count-live j k) in
-      ltb-true (slot log i .start) (slot log j .start) (rw (at-live i (omega arith), at-live j k) at r)
+      let r = pairwise-at ahead zeroEntry (logEntries log) (keys-ascend (log .«regime_end») (logEntries log) (whole .rules)) i j h (count-entry j k) in
+      ltb-true (slot log i .start) (slot log j .start) (rw (at-entry i (omega arith), at-entry j k) at r)
 
   pub none-shared : (i j : ℕ) → i < j → j < log .count → BothCover (slot log i) (slot log j) → ⊥
   none-shared i j h k b =

@@ -7,7 +7,7 @@ use mathlib.Core.List.{List, []}
 use Prim.Native.Nat.{ℕ, _≤_}
 use lib.IntN.{ℤ, pos}
 use Rattle.refusals.specs.declared.Refusal.{Refusal}
-use Rattle.refusals.specs.Refusals.{numberOf, answerNumber}
+use Rattle.refusals.specs.Refusals.{refusalNumber, answerNumber}
 use Rattle.refusals.specs.Answers.{One}
 use Rattle.calendar.specs.declared.YearMinutes.{YearMinutes}
 use Rattle.calendar.specs.Years.{minutesNumber, firstFigure, endFigure, MinutesGives}
@@ -16,11 +16,11 @@ use Rattle.entries.specs.declared.Key.{Key}
 use Rattle.outage.specs.declared.Log.{Log}
 use Rattle.outage.specs.declared.Logged.{Logged}
 use Rattle.outage.specs.declared.losing.LostEnergy.{LostEnergy}
-use Rattle.outage.specs.Log.{lastRegimeEnd, validLog, holding}
+use Rattle.outage.specs.Log.{lastRegimeEnd, validLog, logHolding}
 use Rattle.outage.specs.Calls.{EmptyGives, EnterGives, CancelGives, lostNumber, lostFigure, LostGives}
 use Rattle.outage.specs.Calls as logs
 use Rattle.year.specs.declared.Year.{Year}
-use Rattle.year.specs.Year.{freshYear, goodYearRecord}
+use Rattle.year.specs.Year.{freshYear, goodYear}
 use Rattle.year.specs.Year as years
 use Rattle.levels.specs.declared.Book.{Book}
 use Rattle.levels.specs.declared.measuring.Availability.{Availability}
@@ -33,7 +33,7 @@ use Rattle.revenue.specs.declared.Revenue.{Revenue}
 use Rattle.revenue.specs.Revenue.{revenueNumber, revenueFigure, RevenueGives}
 use Rattle.balances.specs.declared.assessing.Yearly.{Yearly}
 use Rattle.balances.specs.declared.assessing.Assessment.{Assessment}
-use Rattle.balances.specs.Assessment.{goodYearly, noFigures, assessNumber, assessFigures, YearsGives, AssessGives}
+use Rattle.balances.specs.Assessment.{assessable, noFigures, assessNumber, assessFigures, YearsGives, AssessGives}
 use Rattle.assessment.specs.Period.{PeriodGives}
 use Rattle.settlement.specs.declared.medians.Period.{Period}
 use Rattle.settlement.specs.declared.medians.Gap.{Gap}
@@ -41,12 +41,12 @@ use Rattle.settlement.specs.declared.table.Growth.{Growth}
 use Rattle.settlement.specs.declared.paying.Payment.{Payment}
 use Rattle.settlement.specs.Calls.{gapNumber, gapFigure, GapGives, growthNumber, growthFigure, GrowthGives, payNumber, payFigure, PayGives, SettleGives, ReconcileGives}
 use Rattle.codec.specs.Numbers.{Bytes}
-use Rattle.filing.specs.declared.Return.{Return}
-use Rattle.reading.specs.Reading.{ReturnGives}
-use Rattle.writing.specs.declared.Written.{Written}
-use Rattle.writing.specs.Written.{writtenNumber, lengthFigure, WriteGives}
-use Rattle.refiling.specs.Refiled.{RefileGives}
-use Rattle.printout.specs.Printout.{PrintGives}
+use Rattle.return_format.specs.declared.Return.{Return}
+use Rattle.return_reading.specs.Reading.{ReturnGives}
+use Rattle.return_writing.specs.declared.Written.{Written}
+use Rattle.return_writing.specs.Written.{writtenNumber, lengthFigure, WriteGives}
+use Rattle.return_refiling.specs.Refiled.{RefileGives}
+use Rattle.return_printout.specs.Printout.{PrintGives}
 
 -- a number that is 8 for a bad book, and else 1 for a broken log
 abbrev pub BookThenLog : Book → Log → ℕ → Type 0
@@ -56,12 +56,12 @@ BookThenLog book log n =
 pub record Demand1 : Type 0 where
   -- ---- each call answers on every input, and in one way
   pub empty : (regimeEnd : ℕ) → One (EmptyGives regimeEnd)
-  pub check-log : (log : Log) → One (logs.CheckGives log)
+  pub check-log : (log : Log) → One (logs.CheckLogGives log)
   pub enter : (log : Log) (e : Entry) → One (EnterGives log e)
   pub cancel : (log : Log) (key : Key) → One (CancelGives log key)
   pub lost : (log : Log) (a b : ℕ) → One (LostGives log a b)
   pub minutes : (number regimeEnd : ℕ) → One (MinutesGives number regimeEnd)
-  pub check-year : (y : Year) → One (years.CheckGives y)
+  pub check-year : (y : Year) → One (years.CheckYearGives y)
   pub availability : (book : Book) (log : Log) (number : ℕ) → One (AvailabilityGives book log number)
   pub target : (book : Book) (log : Log) (number : ℕ) → One (TargetGives book log number)
   pub levels : (book : Book) (y : Year) (log : Log) → One (LevelsGives book y log)
@@ -86,17 +86,17 @@ pub record Demand1 : Type 0 where
   pub target-checks : (book : Book) (log : Log) (number : ℕ) (r : Target) → TargetGives book log number r → BookThenLog book log (targetNumber r)
   pub levels-checks : (book : Book) (y : Year) (log : Log) (r : Levels) → LevelsGives book y log r → BookThenLog book log (levelsNumber r)
   pub period-checks : (book : Book) (years : List Year) (log : Log) (r : Assessment) → PeriodGives book years log r → BookThenLog book log (assessNumber r)
-  pub revenue-checks : (y : Year) (r : Revenue) → RevenueGives y r → goodYearRecord y ≡ false → revenueNumber r ≡ 9
-  pub assess-checks : (y : Yearly) (r : Assessment) → AssessGives y r → goodYearly y 5 ≡ false → assessNumber r ≡ 9
+  pub revenue-checks : (y : Year) (r : Revenue) → RevenueGives y r → goodYear y ≡ false → revenueNumber r ≡ 9
+  pub assess-checks : (y : Yearly) (r : Assessment) → AssessGives y r → assessable y 5 ≡ false → assessNumber r ≡ 9
   pub write-checks : (y : Year) (out : List ℕ) (r : Written) (o : List ℕ) → WriteGives y out r o → validLog (y .log) ≡ false → writtenNumber r ≡ 1
   -- ---- "A refused call has a fixed number": 1 to 14, each for one refusal
-  pub numbered : (why : Refusal) → (1 ≤ numberOf why) × (numberOf why ≤ 14)
-  pub fixed : (why other : Refusal) → numberOf why ≡ numberOf other → why ≡ other
+  pub numbered : (why : Refusal) → (1 ≤ refusalNumber why) × (refusalNumber why ≤ 14)
+  pub fixed : (why other : Refusal) → refusalNumber why ≡ refusalNumber other → why ≡ other
   -- ---- "gives back the log it got", to the last slot
   pub enter-refused : (log : Log) (e : Entry) (r : Logged) → EnterGives log e r → (answerNumber (r .answer) ≡ 0 → ⊥) → r .log ≡ log
   pub cancel-refused : (log : Log) (key : Key) (r : Logged) → CancelGives log key r → (answerNumber (r .answer) ≡ 0 → ⊥) → r .log ≡ log
   -- where it was handed none, the empty log to 13,632,480
-  pub empty-refused : (regimeEnd : ℕ) (r : Logged) → EmptyGives regimeEnd r → (answerNumber (r .answer) ≡ 0 → ⊥) → r .log ≡ holding lastRegimeEnd []
+  pub empty-refused : (regimeEnd : ℕ) (r : Logged) → EmptyGives regimeEnd r → (answerNumber (r .answer) ≡ 0 → ⊥) → r .log ≡ logHolding lastRegimeEnd []
   -- ---- "writes no byte to a lent buffer"; the length is 0
   pub write-refused : (y : Year) (out : List ℕ) (r : Written) (o : List ℕ) → WriteGives y out r o → (writtenNumber r ≡ 0 → ⊥) → (o ≡ out) × (lengthFigure r ≡ 0)
   pub refile-refused : (bs out : List ℕ) (r : Written) (o : List ℕ) → RefileGives bs out r o → (writtenNumber r ≡ 0 → ⊥) → (o ≡ out) × (lengthFigure r ≡ 0)

@@ -46,15 +46,15 @@ use Rattle.settlement.specs.Exact.{NearExact}
 use Rattle.settlement.specs.Calls.{gapNumber, gapFigure, GapGives, growthNumber, growthFigure, GrowthGives, payNumber, payFigure, PayGives, SettleGives, ReconcileGives}
 use Rattle.codec.specs.Numbers.{Bytes}
 use Rattle.codec.specs.Fields.{isWhole, joined}
-use Rattle.filing.specs.declared.Return.{Return}
-use Rattle.filing.specs.Return.{mostBytes}
-use Rattle.round_trip.specs.Flat.{fieldsOf, Ordered}
-use Rattle.round_trip.specs.Places.{Files, Filed, Stands}
-use Rattle.reading.specs.Reading.{ReturnGives}
-use Rattle.writing.specs.declared.Written.{Written}
-use Rattle.writing.specs.declared.Written.the-variants.{Length}
-use Rattle.writing.specs.Written.{writtenNumber, WriteGives}
-use Rattle.refiling.specs.Refiled.{RefileGives}
+use Rattle.return_format.specs.declared.Return.{Return}
+use Rattle.return_format.specs.Return.{mostBytes}
+use Rattle.return_round_trip.specs.Flat.{fieldsOf, Ordered}
+use Rattle.return_round_trip.specs.Places.{IsReturnOf, IsReturn, RefusalPlace}
+use Rattle.return_reading.specs.Reading.{ReturnGives}
+use Rattle.return_writing.specs.declared.Written.{Written}
+use Rattle.return_writing.specs.declared.Written.the-variants.{Length}
+use Rattle.return_writing.specs.Written.{writtenNumber, WriteGives}
+use Rattle.return_refiling.specs.Refiled.{RefileGives}
 
 -- ---- what the figures of an assessment are
 -- the balances after five years of the recursion of document 01 (SC3 9, 11, 12, 13), T, and the adjustment
@@ -62,20 +62,20 @@ pub record Carried (y : Yearly) (f : Figures) : Type 0 where
   pub revenue : f .revenue ≡ balanceAfter (y .index) (y .revenue) 4
   pub cap : f .cap ≡ balanceAfter (y .index) (y .cap) 4
   pub floor : f .floor ≡ balanceAfter (y .index) (y .floor) 4
-  pub within : f .within ≡ balanceAfter (y .index) (y .within) 4
+  pub wpa : f .wpa ≡ balanceAfter (y .index) (y .wpa) 4
   pub held : f .held ≡ heldBetween (f .revenue) (f .floor) (f .cap)
-  pub adjustment : f .adjustment ≡ f .held -ℤ f .revenue -ℤ f .within
+  pub adjustment : f .adjustment ≡ f .held -ℤ f .revenue -ℤ f .wpa
 
 -- each within half a pound for each rounding, with the uplifts after it, of the licence's sum of amounts times uplifts
 pub record NearSums (y : Yearly) (f : Figures) : Type 0 where
   pub revenue : Near (f .revenue) (y .index) (y .revenue) 4
   pub cap : Near (f .cap) (y .index) (y .cap) 4
   pub floor : Near (f .floor) (y .index) (y .floor) 4
-  pub within : Near (f .within) (y .index) (y .within) 4
+  pub wpa : Near (f .wpa) (y .index) (y .wpa) 4
 
 -- SC3 4 by its four cases
 abbrev pub IsCFA : Figures → Type 0
-IsCFA f = f .adjustment ≡ CFA (f .revenue) (f .cap) (f .floor) (f .within)
+IsCFA f = f .adjustment ≡ CFA (f .revenue) (f .cap) (f .floor) (f .wpa)
 
 pub record Demand2 : Type 0 where
   -- ---- levels
@@ -149,8 +149,8 @@ pub record Demand2 : Type 0 where
       → (out o : List ℕ) (r : Written) → WriteGives (t .year) out r o → length bs ≤ length out → (r ≡ Length (length bs)) × (o ≡ bs ++ drop (length bs) out)
   pub refiled : (bs out : List ℕ) (r : Written) (o : List ℕ) → RefileGives bs out r o → writtenNumber r ≡ 0 → (r ≡ Length (length bs)) × (o ≡ bs ++ drop (length bs) out)
   -- ---- a return is accepted exactly where some valid year has these bytes, and one year alone has them
-  pub is-return : (bs : List ℕ) → Bytes bs → (t : Return) → ReturnGives bs t → (answerNumber (t .answer) ≡ 0 → Filed bs) × (Filed bs → answerNumber (t .answer) ≡ 0)
-  pub same-bytes : (x y : Year) (bs : List ℕ) → Files x bs → Files y bs → x ≡ y
+  pub is-return : (bs : List ℕ) → Bytes bs → (t : Return) → ReturnGives bs t → (answerNumber (t .answer) ≡ 0 → IsReturn bs) × (IsReturn bs → answerNumber (t .answer) ≡ 0)
+  pub same-bytes : (x y : Year) (bs : List ℕ) → IsReturnOf x bs → IsReturnOf y bs → x ≡ y
   -- what is written is the year's fields, one after the other, each whole
   pub whole-fields : (y : Year) → all isWhole (fieldsOf y) ≡ true
   pub flat : (y : Year) (out : List ℕ) (r : Written) (o : List ℕ) → WriteGives y out r o → writtenNumber r ≡ 0
@@ -160,6 +160,6 @@ pub record Demand2 : Type 0 where
       → (fields : List (List ℕ)) → all isWhole fields ≡ true → bs ≡ joined fields → Ordered fields
   -- ---- the place of a refused return: the one at which it stands, or 8,192 where it is longer
   pub place : (bs : List ℕ) → Bytes bs → (t : Return) → ReturnGives bs t → (answerNumber (t .answer) ≡ 0 → ⊥) → length bs ≤ mostBytes
-      → Stands bs (t .place) × ((other : ℕ) → Stands bs other → other ≡ t .place)
-  pub one-place : (bs : List ℕ) (place other : ℕ) → Stands bs place → Stands bs other → place ≡ other
+      → RefusalPlace bs (t .place) × ((other : ℕ) → RefusalPlace bs other → other ≡ t .place)
+  pub one-place : (bs : List ℕ) (place other : ℕ) → RefusalPlace bs place → RefusalPlace bs other → place ≡ other
   pub longer : (bs : List ℕ) (t : Return) → ReturnGives bs t → mostBytes < length bs → (answerNumber (t .answer) ≡ 13) × (t .place ≡ mostBytes)

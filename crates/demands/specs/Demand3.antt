@@ -15,14 +15,14 @@ use Rattle.entries.specs.Row.{sharesMinute, BothCover, lostIn}
 use Rattle.outage.specs.declared.Log.{Log}
 use Rattle.outage.specs.declared.losing.LostEnergy.{LostEnergy}
 use Rattle.outage.specs.declared.losing.LostEnergy.the-variants.{MwMinutes}
-use Rattle.outage.specs.Log.{slots, mostMw, goodRegimeEnd, lastRegimeEnd, zeroEntry, validLog, live}
+use Rattle.outage.specs.Log.{slots, mostMw, goodRegimeEnd, lastRegimeEnd, zeroEntry, validLog, logEntries}
 use Rattle.outage.specs.Calls.{lostFigure, LostGives}
 use Rattle.demands.specs.Log.{timesIn, slot}
 
 -- of the regime end that the empty log was asked for, the log after the run, and the entries accepted and not since cancelled
 pub record Demand3 (regimeEnd : ℕ) (log : Log) (es : List Entry) : Type 0 where
   -- the log holds exactly these entries, each as many times
-  pub exactly : (x : Entry) → timesIn x (live log) ≡ timesIn x es
+  pub exactly : (x : Entry) → timesIn x (logEntries log) ≡ timesIn x es
   -- its count is their number
   pub counted : log .count ≡ length es
   -- it has 400 slots

@@ -6,7 +6,7 @@ use Prim.Native.Nat.{ℕ, _+_}
 use lib.IntN.{pos, negℤ}
 use Rattle.refusals.specs.declared.Refusal.the-variants.{BadPeriod}
 use Rattle.outage.specs.declared.Log.{Log}
-use Rattle.outage.specs.Log.{holding, lastRegimeEnd}
+use Rattle.outage.specs.Log.{logHolding, lastRegimeEnd}
 use Rattle.year.specs.declared.Year.{Year}
 use Rattle.year.specs.Year.{freshYear}
 use Rattle.levels.specs.declared.measuring.Target.{Target}
@@ -32,10 +32,10 @@ use Rattle.settlement.specs.Calls.{GapGives, GrowthGives, PayGives}
 
 -- the whole cable out for some minutes from a start on
 abbrev pub outFor : ℕ → ℕ → Log
-outFor start minutes = holding lastRegimeEnd (record { start = start; end = start + minutes; mw = 1000 } ∷ [])
+outFor start minutes = logHolding lastRegimeEnd (record { start = start; end = start + minutes; mw = 1000 } ∷ [])
 
 abbrev pub noOutage : Log
-noOutage = holding lastRegimeEnd []
+noOutage = logHolding lastRegimeEnd []
 
 -- a whole year with AIC 10,200 and PPPI 11,000
 abbrev pub markedYear : Year
@@ -49,7 +49,7 @@ markedYear = record {
   lines = freshYear .lines;
   «line_count» = 0;
   exceptional = false;
-  within = pos 0;
+  wpa = pos 0;
   log = freshYear .log;
 }
 
@@ -63,7 +63,7 @@ fiveYears = record {
   revenue = five (pos 1000000);
   cap = five (pos 900000);
   floor = five (pos 500000);
-  within = pos 0 ∷ negℤ (pos 100000) ∷ pos 0 ∷ pos 0 ∷ pos 0 ∷ [];
+  wpa = pos 0 ∷ negℤ (pos 100000) ∷ pos 0 ∷ pos 0 ∷ pos 0 ∷ [];
 }
 
 pub record FiveFigures (r : Assessment) : Type 0 where
@@ -73,7 +73,7 @@ pub record FiveFigures (r : Assessment) : Type 0 where
   -- "C 4,863,014"
   pub cap : assessFigures r .cap ≡ pos 4863014
   -- "W -112,098"
-  pub within : assessFigures r .within ≡ negℤ (pos 112098)
+  pub wpa : assessFigures r .wpa ≡ negℤ (pos 112098)
   -- "adjustment -428,237"
   pub adjustment : assessFigures r .adjustment ≡ negℤ (pos 428237)
 

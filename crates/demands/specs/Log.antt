@@ -61,14 +61,14 @@ cancelledSince e [] = false
 cancelledSince e (event ∷ events) = cancelledBy e event || cancelledSince e events
 
 -- the entries put in and not since taken out
-abbrev pub standing : List Event → List Entry
-standing [] = []
-standing (put e ∷ since) = cond (cancelledSince e since) (standing since) (e ∷ standing since)
-standing (takenOut key ∷ since) = standing since
+abbrev pub notCancelled : List Event → List Entry
+notCancelled [] = []
+notCancelled (put e ∷ since) = cond (cancelledSince e since) (notCancelled since) (e ∷ notCancelled since)
+notCancelled (takenOut key ∷ since) = notCancelled since
 
 -- "the entries accepted and not since cancelled"
 abbrev pub acceptedNotCancelled : List Turn → List Entry
-acceptedNotCancelled turns = standing (eventsOf happened turns)
+acceptedNotCancelled turns = notCancelled (eventsOf happened turns)
 
 -- ---- what a log holds
 -- how many times an entry stands in a list

@@ -13,14 +13,14 @@ use Rattle.refusals.proofs.Laws.{all-clear, last-row, beside-accepted}
 use Rattle.refusals.proofs.Cases.{found-meets, refused-meets}
 use Rattle.calendar.specs.declared.YearMinutes.{YearMinutes}
 use Rattle.calendar.specs.declared.YearMinutes.the-variants as minutes
-use Rattle.calendar.specs.Years.{yearStart, yearEnd, lastYear, goodYear, yearRows, firstFigure, endFigure, MinutesGives}
+use Rattle.calendar.specs.Years.{yearStart, yearEnd, lastYear, goodYearNumber, minutesRows, firstFigure, endFigure, MinutesGives}
 use Rattle.calendar.proofs.Laws.{year-within}
 use Rattle.outage.specs.declared.Log.{Log}
 use Rattle.outage.specs.declared.losing.LostEnergy.{LostEnergy}
 use Rattle.outage.specs.declared.losing.LostEnergy.the-variants as lost
-use Rattle.outage.specs.Log.{firstRegimeEnd, lastRegimeEnd, validLog, live, lostEnergy}
+use Rattle.outage.specs.Log.{firstRegimeEnd, lastRegimeEnd, validLog, logEntries, lostEnergy}
 use Rattle.outage.specs.Calls.{lostRows, lostNumber, LostGives}
-use Rattle.outage.proofs.Holding.{valid-end}
+use Rattle.outage.proofs.LogHolding.{valid-end}
 use Rattle.outage.proofs.Only.{only-lost}
 use Rattle.outage.proofs.Most.{lost-given, valid-stretch}
 use Rattle.levels.specs.declared.Book.{Book}
@@ -39,9 +39,9 @@ late log v =
     leb-true firstRegimeEnd re (and-left (leb firstRegimeEnd re) (leb re lastRegimeEnd) (valid-end log v))
 
 span-is : (number regimeEnd : ℕ) {first end : ℕ} → MinutesGives number regimeEnd (minutes.Span first end)
-    → (goodYear number ≡ true) × (first ≡ yearStart number) × (end ≡ yearEnd number regimeEnd)
+    → (goodYearNumber number ≡ true) × (first ≡ yearStart number) × (end ≡ yearEnd number regimeEnd)
 span-is number regimeEnd g =
-    let y : goodYear number ≡ true = not-no (goodYear number) (all-clear (yearRows number) (sym (g .0)) .0) in
+    let y : goodYearNumber number ≡ true = not-no (goodYearNumber number) (all-clear (minutesRows number) (sym (g .0)) .0) in
     (y, g .1 ∙ simp y, g .2 ∙ simp y)
 
 -- the minutes that the calendar answers with, from 0 to 0 beside a refusal
@@ -64,10 +64,10 @@ pub asked : {log : Log} {number : ℕ} {m : YearMinutes} {l : LostEnergy} {first
 asked g f e h = record { minutes = g; lost = rw (f, e) at h }
 
 module _ {log : Log} {number : ℕ} {m : YearMinutes} {l : LostEnergy} (a : Asked log number m l) where
-  lost-is : validLog log ≡ true → l ≡ lost.MwMinutes (lostEnergy (firstFigure m) (endFigure m) (live log))
+  lost-is : validLog log ≡ true → l ≡ lost.MwMinutes (lostEnergy (firstFigure m) (endFigure m) (logEntries log))
   lost-is v =
       let s = stretch log number m (a .minutes) v in
-      only-lost log (firstFigure m) (endFigure m) l (lost.MwMinutes (lostEnergy (firstFigure m) (endFigure m) (live log))) (a .lost)
+      only-lost log (firstFigure m) (endFigure m) l (lost.MwMinutes (lostEnergy (firstFigure m) (endFigure m) (logEntries log))) (a .lost)
       (lost-given log (firstFigure m) (endFigure m) v (s .0) (s .1))
 
   -- a refusal says that the log is broken
@@ -82,7 +82,7 @@ module _ {log : Log} {number : ℕ} {m : YearMinutes} {l : LostEnergy} (a : Aske
   lost-valid : (x : ℕ) → l ≡ lost.MwMinutes x → validLog log ≡ true
   lost-valid x e = not-no (validLog log) (all-clear (lostRows log (firstFigure m) (endFigure m)) (sym (a .lost .0) ∙ ap lostNumber e) .0)
 
-  lost-figure : (x : ℕ) → l ≡ lost.MwMinutes x → x ≡ lostEnergy (firstFigure m) (endFigure m) (live log)
+  lost-figure : (x : ℕ) → l ≡ lost.MwMinutes x → x ≡ lostEnergy (firstFigure m) (endFigure m) (logEntries log)
   lost-figure x e = let k = lost-is (lost-valid x e) in cc
 
   pub lost-within : LostWithin m l
@@ -101,8 +101,8 @@ module _ (book : Book) {log : Log} {number : ℕ} where
   measured-by false m l h a = simp h (refl, refl)
   measured-by true m (lost.Refused why) h a = simp (h, lost-refused a why refl) (refl, refl)
   measured-by true (minutes.Refused why) (lost.MwMinutes x) h a =
-      let k = last-row [] BadYear why (not (goodYear number)) tt (a .minutes .0) in
-      simp (h, lost-valid a x refl, not-yes (goodYear number) (k .0), k .1) (refl, refl)
+      let k = last-row [] BadYear why (not (goodYearNumber number)) tt (a .minutes .0) in
+      simp (h, lost-valid a x refl, not-yes (goodYearNumber number) (k .0), k .1) (refl, refl)
   measured-by true (minutes.Span first end) (lost.MwMinutes x) h a =
       let s = span-is number (log .«regime_end») (a .minutes) in
       simp (h, lost-valid a x refl, s .0) (refl, rw (lost-figure a x refl, s .1, s .2))

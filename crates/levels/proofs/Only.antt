@@ -4,7 +4,7 @@ use mathlib.Core.Logic.{_⊎_, inl, inr}
 use mathlib.Core.Bool.{Bool, true, false}
 use Prim.Native.Nat.{ℕ}
 use lib.IntN.{ℤ, pos}
-use Rattle.refusals.specs.Refusals.{inTurn, standIn}
+use Rattle.refusals.specs.Refusals.{inTurn, inOrderOf}
 use Rattle.refusals.specs.Answers.{One}
 use Rattle.refusals.proofs.Cases.{Refusing, Answers, same-case, one-case, same-two, one-two}
 use Rattle.outage.specs.declared.Log.{Log}
@@ -40,7 +40,7 @@ only-availability book log number r s p q = same-case availability-answers r s (
 pub one-availability : (book : Book) (log : Log) (number : ℕ) → One (AvailabilityGives book log number)
 one-availability book log number = one-case availability-answers (availabilityRows book log number) (availabilityIn log number)
 
-pub availability-in-turn : (book : Book) (log : Log) (number : ℕ) → standIn inTurn (availabilityRows book log number) ≡ true
+pub availability-in-turn : (book : Book) (log : Log) (number : ℕ) → inOrderOf inTurn (availabilityRows book log number) ≡ true
 availability-in-turn book log number = refl
 
 -- ---- the target
@@ -95,5 +95,5 @@ only-levels book y log r s p q = same-two levels-answers r s (p .0 ∙ sym (q .0
 pub one-levels : (book : Book) (y : Year) (log : Log) → One (LevelsGives book y log)
 one-levels book y log = one-two levels-answers (levelsRows book y log) (capLevel book y) (floorOf book y log)
 
-pub levels-in-turn : (book : Book) (y : Year) (log : Log) → standIn inTurn (levelsRows book y log) ≡ true
+pub levels-in-turn : (book : Book) (y : Year) (log : Log) → inOrderOf inTurn (levelsRows book y log) ≡ true
 levels-in-turn book y log = refl

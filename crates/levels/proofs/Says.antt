@@ -9,7 +9,7 @@ use lib.Signed.{nonNeg}
 use Rattle.lists.proofs.Tests.{and-left, and-right}
 use Rattle.outage.specs.Log.{goodRegimeEnd}
 use Rattle.levels.specs.declared.Book.{Book}
-use Rattle.levels.specs.Book.{goodTarget, goodFactor, small, goodSum, goodBook, bookHolds}
+use Rattle.levels.specs.Book.{goodTarget, goodFactor, goodBookAmount, goodSum, goodBook, bookHolds}
 
 -- ---- a preliminary level with its two adjustments
 pub record SumSays (preliminary construction opex : ℤ) : Type 0 where
@@ -22,17 +22,17 @@ pub record SumSays (preliminary construction opex : ℤ) : Type 0 where
 sum-says : (p c o : ℤ) → goodSum p c o ≡ true → SumSays p c o
 sum-says p c o g =
     let s = p +ℤ c +ℤ o in
-    let rest = small o && (nonNeg s && small s) in
-    let q = and-left (nonNeg p && small p) (small c && rest) g in
-    let r = and-right (nonNeg p && small p) (small c && rest) g in
-    let t = and-right (small c) rest r in
-    let u = and-right (small o) (nonNeg s && small s) t in
+    let rest = goodBookAmount o && (nonNeg s && goodBookAmount s) in
+    let q = and-left (nonNeg p && goodBookAmount p) (goodBookAmount c && rest) g in
+    let r = and-right (nonNeg p && goodBookAmount p) (goodBookAmount c && rest) g in
+    let t = and-right (goodBookAmount c) rest r in
+    let u = and-right (goodBookAmount o) (nonNeg s && goodBookAmount s) t in
     record {
-      level = leb-true (natAbs p) 1000000000 (and-right (nonNeg p) (small p) q);
-      built = leb-true (natAbs c) 1000000000 (and-left (small c) rest r);
-      run = leb-true (natAbs o) 1000000000 (and-left (small o) (nonNeg s && small s) t);
-      all = leb-true (natAbs s) 1000000000 (and-right (nonNeg s) (small s) u);
-      sign = and-left (nonNeg s) (small s) u;
+      level = leb-true (natAbs p) 1000000000 (and-right (nonNeg p) (goodBookAmount p) q);
+      built = leb-true (natAbs c) 1000000000 (and-left (goodBookAmount c) rest r);
+      run = leb-true (natAbs o) 1000000000 (and-left (goodBookAmount o) (nonNeg s && goodBookAmount s) t);
+      all = leb-true (natAbs s) 1000000000 (and-right (nonNeg s) (goodBookAmount s) u);
+      sign = and-left (nonNeg s) (goodBookAmount s) u;
     }
 
 -- ---- the book
@@ -67,5 +67,5 @@ book-says b g =
     }
 
 -- a book that holds for a log is in range
-pub held-good : (b : Book) (regimeEnd : ℕ) → bookHolds b regimeEnd ≡ true → goodBook b ≡ true
-held-good b regimeEnd h = and-left (goodBook b) (eqb (b .«regime_end») regimeEnd) h
+pub holds-good : (b : Book) (regimeEnd : ℕ) → bookHolds b regimeEnd ≡ true → goodBook b ≡ true
+holds-good b regimeEnd h = and-left (goodBook b) (eqb (b .«regime_end») regimeEnd) h

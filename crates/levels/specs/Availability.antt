@@ -4,11 +4,11 @@ use mathlib.Core.List.{[], _∷_}
 use mathlib.Core.Path.{_≡_}
 use Prim.Native.Nat.{ℕ, _-_, _*_}
 use lib.Dec.{leb}
-use Rattle.refusals.specs.Refusals.{Rows, accepted, numberOf, lowest}
+use Rattle.refusals.specs.Refusals.{Rows, accepted, refusalNumber, firstApplicable}
 use Rattle.refusals.specs.declared.Refusal.the-variants.{BadBook, BrokenLog, BadYear}
-use Rattle.calendar.specs.Years.{yearStart, yearEnd, goodYear}
+use Rattle.calendar.specs.Years.{yearStart, yearEnd, goodYearNumber}
 use Rattle.outage.specs.declared.Log.{Log}
-use Rattle.outage.specs.Log.{validLog, live, lostEnergy, mostMw}
+use Rattle.outage.specs.Log.{validLog, logEntries, lostEnergy, mostMw}
 use Rattle.levels.specs.declared.Book.{Book}
 use Rattle.levels.specs.declared.measuring.Availability.{Availability}
 use Rattle.levels.specs.declared.measuring.Availability.the-variants as availability
@@ -19,7 +19,7 @@ use Rattle.levels.specs.Book.{bookHolds, targetOf}
 -- "Availability of a year is 1,000 times its minutes less its lost energy." (SC4 18)
 abbrev pub availabilityIn : Log → ℕ → ℕ
 availabilityIn log number =
-    mostMw * (yearEnd number (log .«regime_end») - yearStart number) - lostEnergy (yearStart number) (yearEnd number (log .«regime_end»)) (live log)
+    mostMw * (yearEnd number (log .«regime_end») - yearStart number) - lostEnergy (yearStart number) (yearEnd number (log .«regime_end»)) (logEntries log)
 
 -- "The target ... times 60 for comparison; equality meets it." (SC4 16)
 abbrev pub meetsTarget : Book → Log → ℕ → Bool
@@ -28,14 +28,14 @@ meetsTarget book log number = leb (60 * targetOf book number) (availabilityIn lo
 -- ---- the calls
 abbrev pub availabilityRows : Book → Log → ℕ → Rows
 availabilityRows book log number =
-    (BadBook, not (bookHolds book (log .«regime_end»))) ∷ (BrokenLog, not (validLog log)) ∷ (BadYear, not (goodYear number)) ∷ []
+    (BadBook, not (bookHolds book (log .«regime_end»))) ∷ (BrokenLog, not (validLog log)) ∷ (BadYear, not (goodYearNumber number)) ∷ []
 
 abbrev pub availabilityGiven : Book → Log → ℕ → ℕ
 availabilityGiven book log number = cond (accepted (availabilityRows book log number)) (availabilityIn log number) 0
 
 abbrev pub availabilityNumber : Availability → ℕ
 availabilityNumber (availability.MwMinutes x) = 0
-availabilityNumber (availability.Refused why) = numberOf why
+availabilityNumber (availability.Refused why) = refusalNumber why
 
 abbrev pub availabilityFigure : Availability → ℕ
 availabilityFigure (availability.MwMinutes x) = x
@@ -44,7 +44,7 @@ availabilityFigure (availability.Refused why) = 0
 -- what `availability_of` promises of its result
 abbrev pub AvailabilityGives : Book → Log → ℕ → Availability → Type 0
 AvailabilityGives book log number r =
-    (availabilityNumber r ≡ lowest (availabilityRows book log number)) × (availabilityFigure r ≡ availabilityGiven book log number)
+    (availabilityNumber r ≡ firstApplicable (availabilityRows book log number)) × (availabilityFigure r ≡ availabilityGiven book log number)
 
 -- beside a refusal the target is not met
 abbrev pub targetGiven : Book → Log → ℕ → Bool
@@ -53,7 +53,7 @@ targetGiven book log number = cond (accepted (availabilityRows book log number))
 abbrev pub targetNumber : Target → ℕ
 targetNumber target.Met = 0
 targetNumber target.Missed = 0
-targetNumber (target.Refused why) = numberOf why
+targetNumber (target.Refused why) = refusalNumber why
 
 abbrev pub targetMet : Target → Bool
 targetMet target.Met = true
@@ -62,4 +62,4 @@ targetMet (target.Refused why) = false
 
 -- what `check_target` promises of its result
 abbrev pub TargetGives : Book → Log → ℕ → Target → Type 0
-TargetGives book log number r = (targetNumber r ≡ lowest (availabilityRows book log number)) × (targetMet r ≡ targetGiven book log number)
+TargetGives book log number r = (targetNumber r ≡ firstApplicable (availabilityRows book log number)) × (targetMet r ≡ targetGiven book log number)

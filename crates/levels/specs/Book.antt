@@ -28,15 +28,15 @@ publishedBook = record {
 abbrev pub goodTarget : ℕ → Bool
 goodTarget target = leb target 20000000
 
-abbrev pub small : ℤ → Bool
-small z = leb (natAbs z) 1000000000
+abbrev pub goodBookAmount : ℤ → Bool
+goodBookAmount z = leb (natAbs z) 1000000000
 
 -- "preliminary cap and floor: 0 to 10^9", "adjustments: -10^9 to 10^9; each sum with its preliminary level 0 to 10^9"
 abbrev pub goodSum : ℤ → ℤ → ℤ → Bool
 goodSum preliminary construction opex =
-    (nonNeg preliminary && small preliminary)
-    && (small construction
-    && (small opex && (nonNeg (preliminary +ℤ construction +ℤ opex) && small (preliminary +ℤ construction +ℤ opex))))
+    (nonNeg preliminary && goodBookAmount preliminary)
+    && (goodBookAmount construction
+    && (goodBookAmount opex && (nonNeg (preliminary +ℤ construction +ℤ opex) && goodBookAmount (preliminary +ℤ construction +ℤ opex))))
 
 -- "floor factor on a miss: 0 to 10,000"
 abbrev pub goodFactor : ℕ → Bool

@@ -5,13 +5,13 @@ use mathlib.Core.Path.{_≡_}
 use Prim.Native.Nat.{ℕ}
 use lib.Dec.{leb}
 use lib.IntN.{ℤ, pos, natAbs, _*ℤ_}
-use Rattle.refusals.specs.Refusals.{Rows, accepted, numberOf, lowest}
+use Rattle.refusals.specs.Refusals.{Rows, accepted, refusalNumber, firstApplicable}
 use Rattle.refusals.specs.declared.Refusal.the-variants.{BadBook, BrokenLog, BadYear, TooLarge}
 use Rattle.money.specs.Rounding.{roundZ}
 use Rattle.outage.specs.declared.Log.{Log}
 use Rattle.outage.specs.Log.{validLog}
 use Rattle.year.specs.declared.Year.{Year}
-use Rattle.year.specs.Year.{goodYearRecord}
+use Rattle.year.specs.Year.{goodYear}
 use Rattle.levels.specs.declared.Book.{Book}
 use Rattle.levels.specs.declared.levelling.Levels.{Levels}
 use Rattle.levels.specs.declared.levelling.Levels.the-variants.{Pounds, Refused}
@@ -49,7 +49,7 @@ abbrev pub levelsRows : Book → Year → Log → Rows
 levelsRows book y log =
     (BadBook, not (bookHolds book (log .«regime_end»)))
     ∷ (BrokenLog, not (validLog log))
-    ∷ (BadYear, not (goodYearRecord y))
+    ∷ (BadYear, not (goodYear y))
     ∷ (TooLarge, not (levelFits (capLevel book y) && levelFits (floorOf book y log)))
     ∷ []
 
@@ -61,7 +61,7 @@ floorGiven book y log = cond (accepted (levelsRows book y log)) (floorOf book y 
 
 abbrev pub levelsNumber : Levels → ℕ
 levelsNumber (Pounds cap floor) = 0
-levelsNumber (Refused why) = numberOf why
+levelsNumber (Refused why) = refusalNumber why
 
 abbrev pub capFigure : Levels → ℤ
 capFigure (Pounds cap floor) = cap
@@ -74,4 +74,4 @@ floorFigure (Refused why) = pos 0
 -- what `levels_of` promises of its result
 abbrev pub LevelsGives : Book → Year → Log → Levels → Type 0
 LevelsGives book y log r =
-    (levelsNumber r ≡ lowest (levelsRows book y log)) × (capFigure r ≡ capGiven book y log) × (floorFigure r ≡ floorGiven book y log)
+    (levelsNumber r ≡ firstApplicable (levelsRows book y log)) × (capFigure r ≡ capGiven book y log) × (floorFigure r ≡ floorGiven book y log)

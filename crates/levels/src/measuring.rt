@@ -9,12 +9,13 @@ use outage::Log;
 use outage::LostEnergy;
 use outage::lost_energy;
 use refusals::Refusal;
+use year::Year;
 ghost use mathlib.Core.Path.{_≡_};
 ghost use mathlib.Core.Bool.{_&&_};
 ghost use Prim.Native.Nat.{_≤_};
 ghost use lib.IntN.{natAbs, _+ℤ_};
 ghost use lib.Signed.{nonNeg};
-ghost use Rattle.levels.specs.Book.{bookHolds, goodBook, goodSum, small, targetOf};
+ghost use Rattle.levels.specs.Book.{bookHolds, goodBook, goodSum, goodBookAmount, targetOf};
 ghost use Rattle.levels.specs.Availability.{targetMet, AvailabilityGives, TargetGives};
 ghost use Rattle.levels.specs.Steps.{measuredOf, testedOf, LostWithin};
 
@@ -41,7 +42,7 @@ pub(crate) fn sum_of(preliminary: i64, construction: i64, opex: i64) -> i64
 
 // 0 to 10^9.
 fn good_level(z: i64) -> bool
-    ensures { λ r. ⌜ r ≡ (nonNeg z && small z) ⌝ }
+    ensures { λ r. ⌜ r ≡ (nonNeg z && goodBookAmount z) ⌝ }
 {
     if is_negative(z) {
         return false;
@@ -138,10 +139,10 @@ pub fn availability_of(book: Book, log: Log, number: u8) -> Availability
 fn target_of(b: Book, number: u8) -> u32
     ensures { λ r. ⌜ r ≡ targetOf b number ⌝ }
 {
-    if number == YearMinutes::FIRST_YEAR {
+    if number == Year::FIRST {
         return b.first_target;
     }
-    if number == YearMinutes::LAST_YEAR {
+    if number == Year::LAST {
         return b.last_target;
     }
     Book::TARGET

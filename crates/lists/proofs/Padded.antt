@@ -14,8 +14,8 @@ module _ {A : Type 0} (n : ℕ) (z : A) where
   padded-length l h = length-append l (replicate (n - length l) z) ∙ omega (arith, length-replicate (n - length l) z)
 
   -- the first slots are the list
-  pub padded-held : (l : List A) → take (length l) (padded n z l) ≡ l
-  padded-held l = take-append-seam l (replicate (n - length l) z)
+  pub padded-front : (l : List A) → take (length l) (padded n z l) ≡ l
+  padded-front l = take-append-seam l (replicate (n - length l) z)
 
   -- one more is held
   pub padded-more : (l : List A) (a : A) (k : ℕ) → length l ≡ k → k < n → set (padded n z l) k a ≡ padded n z (l ++ (a ∷ []))

@@ -9,9 +9,9 @@ use lib.Dec.{T, leb}
 use lib.IntN.{ℤ, pos, negsuc, negℤ, natAbs, negℤ-negℤ, _-ℤ_, _*ℤ_}
 use lib.Signed.{ltZ}
 use borrow.Author.Tests.{ltb-true, lt-ltb, le-leb, lt-leb, leb-true, leb-false}
-use Rattle.money.specs.Pounds.{mostWhole, heldZ}
+use Rattle.money.specs.Pounds.{mostWhole, saturated}
 use Rattle.money.specs.Rounding.{upOf, roundedOf, roundDiv, onMagnitude, roundZ, inReach, scaledOf}
-use Rattle.money.proofs.Pounds.{abs-neg, held-small}
+use Rattle.money.proofs.Pounds.{abs-neg, saturated-small}
 use Rattle.money.proofs.Parts.{AtMost, over, under, diff, abs, within-half, neg-over, neg-under, times-over, times-under, to-eq}
 
 half-or-none : (r d : ℕ) → r < d → (t : Bool) → leb d (2 * r) ≡ t → (2 * (cond t 1 0 * d) ≤ 2 * r + d) × (2 * r ≤ 2 * (cond t 1 0 * d) + d)
@@ -44,11 +44,11 @@ on-above f (pos n) e = refl
 on-above f (negsuc n) e = absurd (subst T e tt)
 
 -- and each is what `debit` and `credit` give, where it fits
-pub debit-on : (f : ℕ → ℕ) (z : ℤ) → f (natAbs z) < 2 ^ 63 → ltZ z (pos 0) ≡ true → heldZ (negℤ (pos (f (natAbs z)))) ≡ onMagnitude f z
-debit-on f z h e = held-small (negℤ (pos (f (natAbs z)))) (rw (abs-neg (pos (f (natAbs z)))) h) ∙ sym (on-below f z e)
+pub debit-on : (f : ℕ → ℕ) (z : ℤ) → f (natAbs z) < 2 ^ 63 → ltZ z (pos 0) ≡ true → saturated (negℤ (pos (f (natAbs z)))) ≡ onMagnitude f z
+debit-on f z h e = saturated-small (negℤ (pos (f (natAbs z)))) (rw (abs-neg (pos (f (natAbs z)))) h) ∙ sym (on-below f z e)
 
-pub credit-on : (f : ℕ → ℕ) (z : ℤ) → f (natAbs z) < 2 ^ 63 → ltZ z (pos 0) ≡ false → heldZ (pos (f (natAbs z))) ≡ onMagnitude f z
-credit-on f z h e = held-small (pos (f (natAbs z))) h ∙ sym (on-above f z e)
+pub credit-on : (f : ℕ → ℕ) (z : ℤ) → f (natAbs z) < 2 ^ 63 → ltZ z (pos 0) ≡ false → saturated (pos (f (natAbs z))) ≡ onMagnitude f z
+credit-on f z h e = saturated-small (pos (f (natAbs z))) h ∙ sym (on-above f z e)
 
 -- of either, without its sign
 pub abs-on : (f : ℕ → ℕ) (z : ℤ) → natAbs (onMagnitude f z) ≡ f (natAbs z)

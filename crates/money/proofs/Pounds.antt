@@ -13,7 +13,7 @@ use mir.Syntax.{w64}
 use mir.Val.{SFits, toZ, ofZ}
 use mir.Facts.{toZ-ofZ}
 use Rattle.lists.proofs.Tests.{le-or-lt}
-use Rattle.money.specs.Pounds.{mostPounds, heldZ}
+use Rattle.money.specs.Pounds.{mostPounds, saturated}
 
 mag-le : (z : ℤ) → mag z ≤ natAbs z
 mag-le (pos n) = omega arith
@@ -56,17 +56,17 @@ nonNeg-is (negsuc n) = refl
 
 -- ---- held to what fits
 -- a number in the range of 64 bits is held as it is
-pub held-fits : (z : ℤ) → mag z < 2 ^ 63 → heldZ z ≡ z
-held-fits (pos n) h = ap pos (min-eq-left (omega arith))
-held-fits (negsuc n) h = ap negsuc (min-eq-left (omega arith))
+pub saturated-fits : (z : ℤ) → mag z < 2 ^ 63 → saturated z ≡ z
+saturated-fits (pos n) h = ap pos (min-eq-left (omega arith))
+saturated-fits (negsuc n) h = ap negsuc (min-eq-left (omega arith))
 
 -- what is read back of it is what is held
-pub held-wire : (z : ℤ) → mag z < 2 ^ 63 → toZ w64 (ofZ w64 z) ≡ heldZ z
-held-wire z h = wire z h ∙ sym (held-fits z h)
+pub saturated-wire : (z : ℤ) → mag z < 2 ^ 63 → toZ w64 (ofZ w64 z) ≡ saturated z
+saturated-wire z h = wire z h ∙ sym (saturated-fits z h)
 
 -- a number of magnitude below 2^63 is held as it is
-pub held-small : (z : ℤ) → natAbs z < 2 ^ 63 → heldZ z ≡ z
-held-small z h = held-fits z (omega (arith, mag-le z))
+pub saturated-small : (z : ℤ) → natAbs z < 2 ^ 63 → saturated z ≡ z
+saturated-small z h = saturated-fits z (omega (arith, mag-le z))
 
 same-side : (m n limit : ℕ) → (m ≤ limit → n ≤ limit) → (n ≤ limit → m ≤ limit) → leb m limit ≡ leb n limit
 same-side m n limit f g =
@@ -79,6 +79,6 @@ same-side m n limit f g =
     by h = ⊎-elim (λ (k : n ≤ limit). let l = g k in absurd (omega arith)) (λ (k : limit < n). k) (le-or-lt n limit)
 
 -- holding a number to what fits does not change whether its magnitude is within a small limit
-pub held-within : (z : ℤ) (limit : ℕ) → limit < 2 ^ 63 - 1 → leb (natAbs (heldZ z)) limit ≡ leb (natAbs z) limit
-held-within (pos n) limit h = same-side (min n mostPounds) n limit (λ k. omega arith) (λ k. omega arith)
-held-within (negsuc n) limit h = same-side (suc (min n mostPounds)) (suc n) limit (λ k. omega arith) (λ k. omega arith)
+pub saturated-within : (z : ℤ) (limit : ℕ) → limit < 2 ^ 63 - 1 → leb (natAbs (saturated z)) limit ≡ leb (natAbs z) limit
+saturated-within (pos n) limit h = same-side (min n mostPounds) n limit (λ k. omega arith) (λ k. omega arith)
+saturated-within (negsuc n) limit h = same-side (suc (min n mostPounds)) (suc n) limit (λ k. omega arith) (λ k. omega arith)

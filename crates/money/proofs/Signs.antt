@@ -7,7 +7,7 @@ use lib.Dec.{T, ltb}
 use lib.IntN.{ℤ, pos, negsuc, negℤ, natAbs, _+ℤ_, _-ℤ_}
 use lib.Signed.{mag, ltZ, nonNeg}
 use borrow.Author.Tests.{ltb-true, le-ltb}
-use Rattle.money.specs.Pounds.{mostPounds, heldZ}
+use Rattle.money.specs.Pounds.{mostPounds, saturated}
 use Rattle.money.proofs.Parts.{over, under, sum, diff, to-eq}
 
 no-below : (n : ℕ) → ltZ (pos n) (pos 0) ≡ true → ⊥
@@ -32,9 +32,9 @@ turn-mag (pos n) = ap mag (from-pos n)
 turn-mag (negsuc n) = ap mag (from-neg n)
 
 -- it is held to what fits as the number is
-pub turn-held : (z : ℤ) → negsuc 0 -ℤ heldZ z ≡ heldZ (negsuc 0 -ℤ z)
-turn-held (pos n) = from-pos (min n mostPounds) ∙ sym (ap heldZ (from-pos n))
-turn-held (negsuc n) = from-neg (min n mostPounds) ∙ sym (ap heldZ (from-neg n))
+pub reflected-saturated : (z : ℤ) → negsuc 0 -ℤ saturated z ≡ saturated (negsuc 0 -ℤ z)
+reflected-saturated (pos n) = from-pos (min n mostPounds) ∙ sym (ap saturated (from-pos n))
+reflected-saturated (negsuc n) = from-neg (min n mostPounds) ∙ sym (ap saturated (from-neg n))
 
 -- it makes of a sum a difference
 pub turn-sum : (a b : ℤ) → negsuc 0 -ℤ (negsuc 0 -ℤ a +ℤ b) ≡ a -ℤ b
@@ -49,8 +49,8 @@ turn-neg (pos n) e = absurd (no-below n e)
 turn-neg (negsuc n) e = from-neg n
 
 -- and of one that is not below zero it is below it
-pub turn-pos : (n : ℕ) → negsuc 0 -ℤ heldZ (pos n) ≡ heldZ (negsuc n)
-turn-pos n = turn-held (pos n) ∙ ap heldZ (from-pos n)
+pub turn-pos : (n : ℕ) → negsuc 0 -ℤ saturated (pos n) ≡ saturated (negsuc n)
+turn-pos n = reflected-saturated (pos n) ∙ ap saturated (from-pos n)
 
 -- ---- magnitudes
 -- n to the bad, where it is not 0

@@ -11,6 +11,6 @@ abbrev pub mostWhole : ℕ
 mostWhole = 18446744073709551615
 
 -- held to what fits: the number itself, or the end of the range that it lies past
-abbrev pub heldZ : ℤ → ℤ
-heldZ (pos n) = pos (min n mostPounds)
-heldZ (negsuc n) = negsuc (min n mostPounds)
+abbrev pub saturated : ℤ → ℤ
+saturated (pos n) = pos (min n mostPounds)
+saturated (negsuc n) = negsuc (min n mostPounds)

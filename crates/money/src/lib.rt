@@ -8,13 +8,13 @@ ghost use mathlib.Core.Path.{_≡_};
 ghost use lib.Dec.{leb};
 ghost use lib.IntN.{pos, negsuc, natAbs, negℤ, _+ℤ_, _-ℤ_};
 ghost use lib.Signed.{ltZ};
-ghost use Rattle.money.specs.Pounds.{heldZ};
+ghost use Rattle.money.specs.Pounds.{saturated};
 
 // The most that fits an i64.
 const MOST: u64 = 9_223_372_036_854_775_807;
 
 // Minus one less z. It turns the range of an i64 over onto itself, and so turns a sum into a difference.
-fn turned(z: i64) -> i64
+fn reflected(z: i64) -> i64
     ensures { λ r. ⌜ r ≡ negsuc 0 -ℤ z ⌝ }
 {
     -1 - z
@@ -25,7 +25,7 @@ pub fn magnitude(z: i64) -> u64
     ensures { λ r. ⌜ r ≡ natAbs z ⌝ }
 {
     if z < 0 {
-        (turned(z) as u64) + 1
+        (reflected(z) as u64) + 1
     } else {
         z as u64
     }
@@ -52,7 +52,7 @@ pub fn within(z: i64, limit: u64) -> bool
 
 // n pounds to the good, held to what fits.
 pub fn credit(n: u64) -> i64
-    ensures { λ r. ⌜ r ≡ heldZ (pos n) ⌝ }
+    ensures { λ r. ⌜ r ≡ saturated (pos n) ⌝ }
 {
     if MOST < n {
         return 9_223_372_036_854_775_807;
@@ -62,14 +62,14 @@ pub fn credit(n: u64) -> i64
 
 // n pounds and one to the bad, held to what fits.
 fn below_zero(n: u64) -> i64
-    ensures { λ r. ⌜ r ≡ heldZ (negsuc n) ⌝ }
+    ensures { λ r. ⌜ r ≡ saturated (negsuc n) ⌝ }
 {
-    turned(credit(n))
+    reflected(credit(n))
 }
 
 // n pounds to the bad, held to what fits.
 pub fn debit(n: u64) -> i64
-    ensures { λ r. ⌜ r ≡ heldZ (negℤ (pos n)) ⌝ }
+    ensures { λ r. ⌜ r ≡ saturated (negℤ (pos n)) ⌝ }
 {
     if n == 0 {
         return 0;
@@ -79,7 +79,7 @@ pub fn debit(n: u64) -> i64
 
 // The sum, held to what fits.
 pub fn plus(a: i64, b: i64) -> i64
-    ensures { λ r. ⌜ r ≡ heldZ (a +ℤ b) ⌝ }
+    ensures { λ r. ⌜ r ≡ saturated (a +ℤ b) ⌝ }
 {
     let bad = is_negative(a);
     if bad != is_negative(b) {
@@ -96,7 +96,7 @@ pub fn plus(a: i64, b: i64) -> i64
 
 // The difference, held to what fits: a - b is -1 - (-1 - a + b).
 pub fn minus(a: i64, b: i64) -> i64
-    ensures { λ r. ⌜ r ≡ heldZ (a -ℤ b) ⌝ }
+    ensures { λ r. ⌜ r ≡ saturated (a -ℤ b) ⌝ }
 {
-    turned(plus(turned(a), b))
+    reflected(plus(reflected(a), b))
 }

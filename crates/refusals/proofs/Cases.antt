@@ -10,7 +10,7 @@ use borrow.Author.Tests.{eq-eqb, ne-eqb}
 use Rattle.refusals.specs.declared.Refusal.{Refusal}
 use Rattle.refusals.specs.declared.Answer.{Answer}
 use Rattle.refusals.specs.declared.Answer.the-variants.{Done, Refused}
-use Rattle.refusals.specs.Refusals.{numberOf, answerNumber, lowest, accepted, Rows}
+use Rattle.refusals.specs.Refusals.{refusalNumber, answerNumber, firstApplicable, accepted, Rows}
 use Rattle.refusals.specs.Answers.{One}
 use Rattle.refusals.proofs.Laws.{same-refusal, never-zero, same-answer}
 
@@ -22,7 +22,7 @@ pub record Refusing {R : Type 0} (refused : Refusal → R) (r : R) : Type 0 wher
 -- a type of answers: how its number and its figures are read off, the figures beside a refusal, and its two cases
 pub record Answers {R F : Type 0} (number : R → ℕ) (figures : R → F) (none : F) (found : F → R) (refused : Refusal → R) : Type 0 where
   pub number-found : (f : F) → number (found f) ≡ 0
-  pub number-refused : (why : Refusal) → number (refused why) ≡ numberOf why
+  pub number-refused : (why : Refusal) → number (refused why) ≡ refusalNumber why
   pub figures-found : (f : F) → figures (found f) ≡ f
   pub figures-refused : (why : Refusal) → figures (refused why) ≡ none
   pub cases : (r : R) → (r ≡ found (figures r)) ⊎ Refusing refused r
@@ -32,17 +32,17 @@ abbrev firstOf : Rows → Answer
 firstOf [] = Done
 firstOf (row ∷ rows) = cond (row .1) (Refused (row .0)) (firstOf rows)
 
-first-number : (rows : Rows) → answerNumber (firstOf rows) ≡ lowest rows
+first-number : (rows : Rows) → answerNumber (firstOf rows) ≡ firstApplicable rows
 first-number [] = refl
 first-number (row ∷ rows) = by (row .1) (first-number rows)
   where
-    by : (b : Bool) → answerNumber (firstOf rows) ≡ lowest rows
-        → answerNumber (cond b (Refused (row .0)) (firstOf rows)) ≡ cond b (numberOf (row .0)) (lowest rows)
+    by : (b : Bool) → answerNumber (firstOf rows) ≡ firstApplicable rows
+        → answerNumber (cond b (Refused (row .0)) (firstOf rows)) ≡ cond b (refusalNumber (row .0)) (firstApplicable rows)
     by true h = refl
     by false h = h
 
 -- an answer that gives nothing but its number
-pub one-answer : (rows : Rows) → One (λ (a : Answer). answerNumber a ≡ lowest rows)
+pub one-answer : (rows : Rows) → One (λ (a : Answer). answerNumber a ≡ firstApplicable rows)
 one-answer rows = record {
   result = firstOf rows;
   meets = first-number rows;
@@ -57,7 +57,7 @@ module _ {R F : Type 0} {number : R → ℕ} {figures : R → F} {none : F} {fou
       zero-not : (x y : R) → x ≡ found (figures x) → (q : Refusing refused y) → number x ≡ number y → r ≡ s
       zero-not x y p q e =
           let z : number x ≡ 0 = ap number p ∙ a .number-found (figures x) in
-          let w : number y ≡ numberOf (q .why) = ap number (q .is) ∙ a .number-refused (q .why) in
+          let w : number y ≡ refusalNumber (q .why) = ap number (q .is) ∙ a .number-refused (q .why) in
           absurd (not-suc-le-zero {n = 0} (omega (arith, never-zero (q .why))))
 
       by : (r ≡ found (figures r)) ⊎ Refusing refused r → (s ≡ found (figures s)) ⊎ Refusing refused s → r ≡ s
@@ -65,33 +65,33 @@ module _ {R F : Type 0} {number : R → ℕ} {figures : R → F} {none : F} {fou
       by (inl p) (inr q) = zero-not r s p q n
       by (inr p) (inl q) = zero-not s r q p (sym n)
       by (inr p) (inr q) =
-          let v : number r ≡ numberOf (p .why) = ap number (p .is) ∙ a .number-refused (p .why) in
-          let w : number s ≡ numberOf (q .why) = ap number (q .is) ∙ a .number-refused (q .why) in
+          let v : number r ≡ refusalNumber (p .why) = ap number (p .is) ∙ a .number-refused (p .why) in
+          let w : number s ≡ refusalNumber (q .why) = ap number (q .is) ∙ a .number-refused (q .why) in
           p .is ∙ ap refused (same-refusal (p .why) (q .why) (sym v ∙ n ∙ w)) ∙ sym (q .is)
 
   -- the figures meet rows of which none applies, and a refusal those whose number it has
-  pub found-meets : (rows : Rows) (f : F) → lowest rows ≡ 0 → (number (found f) ≡ lowest rows) × (figures (found f) ≡ cond (accepted rows) f none)
+  pub found-meets : (rows : Rows) (f : F) → firstApplicable rows ≡ 0 → (number (found f) ≡ firstApplicable rows) × (figures (found f) ≡ cond (accepted rows) f none)
   found-meets rows f e =
-      (a .number-found f ∙ sym e, a .figures-found f ∙ sym (ap (λ (b : Bool). cond b f none) (eq-eqb (lowest rows) 0 e)))
+      (a .number-found f ∙ sym e, a .figures-found f ∙ sym (ap (λ (b : Bool). cond b f none) (eq-eqb (firstApplicable rows) 0 e)))
 
-  pub refused-meets : (rows : Rows) (f : F) (why : Refusal) → numberOf why ≡ lowest rows → (number (refused why) ≡ lowest rows) × (figures (refused why) ≡ cond (accepted rows) f none)
+  pub refused-meets : (rows : Rows) (f : F) (why : Refusal) → refusalNumber why ≡ firstApplicable rows → (number (refused why) ≡ firstApplicable rows) × (figures (refused why) ≡ cond (accepted rows) f none)
   refused-meets rows f why e =
-      let no : accepted rows ≡ false = ne-eqb (lowest rows) 0 (λ z. not-suc-le-zero {n = 0} (omega (arith, never-zero why))) in
+      let no : accepted rows ≡ false = ne-eqb (firstApplicable rows) 0 (λ z. not-suc-le-zero {n = 0} (omega (arith, never-zero why))) in
       (a .number-refused why ∙ e, a .figures-refused why ∙ sym (ap (λ (b : Bool). cond b f none) no))
 
   -- each list of rows is answered, by the figures where none applies, and in one way
-  pub one-case : (rows : Rows) (f : F) → One (λ (r : R). (number r ≡ lowest rows) × (figures r ≡ cond (accepted rows) f none))
+  pub one-case : (rows : Rows) (f : F) → One (λ (r : R). (number r ≡ firstApplicable rows) × (figures r ≡ cond (accepted rows) f none))
   one-case rows f = by (firstOf rows) (first-number rows)
     where
-      given : (r : R) → (number r ≡ lowest rows) × (figures r ≡ cond (accepted rows) f none)
-          → One (λ (r : R). (number r ≡ lowest rows) × (figures r ≡ cond (accepted rows) f none))
+      given : (r : R) → (number r ≡ firstApplicable rows) × (figures r ≡ cond (accepted rows) f none)
+          → One (λ (r : R). (number r ≡ firstApplicable rows) × (figures r ≡ cond (accepted rows) f none))
       given r m = record {
         result = r;
         meets = m;
         alone = λ other h. same-case other r (h .0 ∙ sym (m .0)) (h .1 ∙ sym (m .1));
       }
 
-      by : (answer : Answer) → answerNumber answer ≡ lowest rows → One (λ (r : R). (number r ≡ lowest rows) × (figures r ≡ cond (accepted rows) f none))
+      by : (answer : Answer) → answerNumber answer ≡ firstApplicable rows → One (λ (r : R). (number r ≡ firstApplicable rows) × (figures r ≡ cond (accepted rows) f none))
       by Done e = given (found f) (found-meets rows f (sym e))
       by (Refused why) e = given (refused why) (refused-meets rows f why e)
 
@@ -110,7 +110,7 @@ module _ {R A B : Type 0} {number : R → ℕ} {f : R → A} {g : R → B} {m : 
   pub same-two : (r s : R) → number r ≡ number s → f r ≡ f s → g r ≡ g s → r ≡ s
   same-two r s e p q = same-case a r s e (λ i. (p i, q i))
 
-  pub one-two : (rows : Rows) (x : A) (y : B) → One (λ (r : R). (number r ≡ lowest rows) × (f r ≡ cond (accepted rows) x m) × (g r ≡ cond (accepted rows) y n))
+  pub one-two : (rows : Rows) (x : A) (y : B) → One (λ (r : R). (number r ≡ firstApplicable rows) × (f r ≡ cond (accepted rows) x m) × (g r ≡ cond (accepted rows) y n))
   one-two rows x y =
       let o = one-case a rows (x, y) in
       let p : f (o .result) ≡ cond (accepted rows) x m = ap (λ (z : A × B). z .0) (o .meets .1) ∙ first-of (accepted rows) (x, y) (m, n) in

@@ -11,7 +11,7 @@ use Rattle.refusals.specs.declared.Refusal.{Refusal}
 use Rattle.refusals.specs.declared.Refusal.the-variants.{BrokenLog, BadSpan, BadPower, SharedMinute, FullLog, NoSuchStart, BadStretch, BadBook, BadYear, FloorAboveCap, TooLarge, BadPeriod, Malformed, NoRoom}
 use Rattle.refusals.specs.declared.Answer.{Answer}
 use Rattle.refusals.specs.declared.Answer.the-variants.{Done, Refused}
-use Rattle.refusals.specs.Refusals.{numberOf, answerNumber, lowest, accepted, Rows, inTurn}
+use Rattle.refusals.specs.Refusals.{refusalNumber, answerNumber, firstApplicable, accepted, Rows, inTurn}
 
 -- the refusals by their numbers, from 1
 byNumber : List Refusal
@@ -36,7 +36,7 @@ named : ℕ → Refusal
 named zero = NoRoom
 named (suc n) = getD byNumber n NoRoom
 
-named-number : (r : Refusal) → named (numberOf r) ≡ r
+named-number : (r : Refusal) → named (refusalNumber r) ≡ r
 unfolding named byNumber
 named-number BrokenLog = refl
 named-number BadSpan = refl
@@ -53,10 +53,10 @@ named-number BadPeriod = refl
 named-number Malformed = refl
 named-number NoRoom = refl
 
-pub same-refusal : (r s : Refusal) → numberOf r ≡ numberOf s → r ≡ s
+pub same-refusal : (r s : Refusal) → refusalNumber r ≡ refusalNumber s → r ≡ s
 same-refusal r s e = sym (named-number r) ∙ ap named e ∙ named-number s
 
-pub never-zero : (r : Refusal) → 0 < numberOf r
+pub never-zero : (r : Refusal) → 0 < refusalNumber r
 never-zero BrokenLog = omega arith
 never-zero BadSpan = omega arith
 never-zero BadPower = omega arith
@@ -83,41 +83,41 @@ abbrev pub AllClear : Rows → Type 0
 AllClear [] = Unit {0}
 AllClear (row ∷ rows) = (row .1 ≡ false) × AllClear rows
 
-pub all-clear : (rows : Rows) → lowest rows ≡ 0 → AllClear rows
+pub all-clear : (rows : Rows) → firstApplicable rows ≡ 0 → AllClear rows
 all-clear [] e = tt
 all-clear (row ∷ rows) e = by (row .1) e (all-clear rows)
   where
-    by : (b : Bool) → cond b (numberOf (row .0)) (lowest rows) ≡ 0 → (lowest rows ≡ 0 → AllClear rows) → (b ≡ false) × AllClear rows
+    by : (b : Bool) → cond b (refusalNumber (row .0)) (firstApplicable rows) ≡ 0 → (firstApplicable rows ≡ 0 → AllClear rows) → (b ≡ false) × AllClear rows
     by true e f = absurd (not-suc-le-zero {n = 0} (omega (arith, never-zero (row .0))))
     by false e f = (refl, f e)
 
 -- ---- what an answer says of the rows that it was found by
-pub done-clear : (a : Answer) (rows : Rows) → answerNumber a ≡ lowest rows → a ≡ Done → lowest rows ≡ 0
+pub done-clear : (a : Answer) (rows : Rows) → answerNumber a ≡ firstApplicable rows → a ≡ Done → firstApplicable rows ≡ 0
 done-clear a rows n e = sym n ∙ ap answerNumber e
 
-pub done-accepted : (a : Answer) (rows : Rows) → answerNumber a ≡ lowest rows → a ≡ Done → accepted rows ≡ true
-done-accepted a rows n e = eq-eqb (lowest rows) 0 (done-clear a rows n e)
+pub done-accepted : (a : Answer) (rows : Rows) → answerNumber a ≡ firstApplicable rows → a ≡ Done → accepted rows ≡ true
+done-accepted a rows n e = eq-eqb (firstApplicable rows) 0 (done-clear a rows n e)
 
-pub refused-not : (a : Answer) (rows : Rows) (why : Refusal) → answerNumber a ≡ lowest rows → a ≡ Refused why → accepted rows ≡ false
+pub refused-not : (a : Answer) (rows : Rows) (why : Refusal) → answerNumber a ≡ firstApplicable rows → a ≡ Refused why → accepted rows ≡ false
 refused-not a rows why n e =
-    let k : lowest rows ≡ numberOf why = sym n ∙ ap answerNumber e in
-    ne-eqb (lowest rows) 0 (λ z. not-suc-le-zero {n = 0} (omega (arith, never-zero why)))
+    let k : firstApplicable rows ≡ refusalNumber why = sym n ∙ ap answerNumber e in
+    ne-eqb (firstApplicable rows) 0 (λ z. not-suc-le-zero {n = 0} (omega (arith, never-zero why)))
 
 -- from a refusal to its row: where no row before it applies, the last row does, and the refusal is its
-pub last-row : (front : Rows) (last why : Refusal) (t : Bool) → AllClear front → numberOf why ≡ lowest (front ++ ((last, t) ∷ [])) → (t ≡ true) × (why ≡ last)
+pub last-row : (front : Rows) (last why : Refusal) (t : Bool) → AllClear front → refusalNumber why ≡ firstApplicable (front ++ ((last, t) ∷ [])) → (t ≡ true) × (why ≡ last)
 last-row [] last why true c e = (refl, same-refusal why last e)
 last-row [] last why false c e = absurd (not-suc-le-zero {n = 0} (omega (arith, never-zero why)))
 last-row (row ∷ front) last why t c e =
-    last-row front last why t (c .1) (e ∙ ap (λ (b : Bool). cond b (numberOf (row .0)) (lowest (front ++ ((last, t) ∷ [])))) (c .0))
+    last-row front last why t (c .1) (e ∙ ap (λ (b : Bool). cond b (refusalNumber (row .0)) (firstApplicable (front ++ ((last, t) ∷ [])))) (c .0))
 
 -- what a call gives is the one thing where it is not refused and the other where it is
-module _ {A : Type 0} (rows : Rows) (n : ℕ) (given asked other : A) (number : n ≡ lowest rows) (is : given ≡ cond (accepted rows) asked other) where
+module _ {A : Type 0} (rows : Rows) (n : ℕ) (given asked other : A) (number : n ≡ firstApplicable rows) (is : given ≡ cond (accepted rows) asked other) where
   pub beside-accepted : n ≡ 0 → given ≡ asked
-  beside-accepted z = is ∙ ap (λ (b : Bool). cond b asked other) (eq-eqb (lowest rows) 0 (sym number ∙ z))
+  beside-accepted z = is ∙ ap (λ (b : Bool). cond b asked other) (eq-eqb (firstApplicable rows) 0 (sym number ∙ z))
 
   pub beside-refused : (n ≡ 0 → ⊥) → given ≡ other
-  beside-refused z = is ∙ ap (λ (b : Bool). cond b asked other) (ne-eqb (lowest rows) 0 (λ e. z (number ∙ e)))
+  beside-refused z = is ∙ ap (λ (b : Bool). cond b asked other) (ne-eqb (firstApplicable rows) 0 (λ e. z (number ∙ e)))
 
 -- the numbers in the order in which they are looked for: each of 1 to 14 once
-pub turns : map numberOf inTurn ≡ 8 ∷ 1 ∷ 2 ∷ 3 ∷ 4 ∷ 5 ∷ 6 ∷ 7 ∷ 9 ∷ 12 ∷ 11 ∷ 10 ∷ 13 ∷ 14 ∷ []
+pub turns : map refusalNumber inTurn ≡ 8 ∷ 1 ∷ 2 ∷ 3 ∷ 4 ∷ 5 ∷ 6 ∷ 7 ∷ 9 ∷ 12 ∷ 11 ∷ 10 ∷ 13 ∷ 14 ∷ []
 turns = refl

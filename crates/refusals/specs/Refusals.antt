@@ -9,26 +9,26 @@ use Rattle.refusals.specs.declared.Answer.{Answer}
 use Rattle.refusals.specs.declared.Answer.the-variants.{Done, Refused}
 
 -- the paper's number of each refusal
-abbrev pub numberOf : Refusal → ℕ
-numberOf BrokenLog = 1
-numberOf BadSpan = 2
-numberOf BadPower = 3
-numberOf SharedMinute = 4
-numberOf FullLog = 5
-numberOf NoSuchStart = 6
-numberOf BadStretch = 7
-numberOf BadBook = 8
-numberOf BadYear = 9
-numberOf FloorAboveCap = 10
-numberOf TooLarge = 11
-numberOf BadPeriod = 12
-numberOf Malformed = 13
-numberOf NoRoom = 14
+abbrev pub refusalNumber : Refusal → ℕ
+refusalNumber BrokenLog = 1
+refusalNumber BadSpan = 2
+refusalNumber BadPower = 3
+refusalNumber SharedMinute = 4
+refusalNumber FullLog = 5
+refusalNumber NoSuchStart = 6
+refusalNumber BadStretch = 7
+refusalNumber BadBook = 8
+refusalNumber BadYear = 9
+refusalNumber FloorAboveCap = 10
+refusalNumber TooLarge = 11
+refusalNumber BadPeriod = 12
+refusalNumber Malformed = 13
+refusalNumber NoRoom = 14
 
 -- the number of an answer, 0 where the call is not refused
 abbrev pub answerNumber : Answer → ℕ
 answerNumber Done = 0
-answerNumber (Refused why) = numberOf why
+answerNumber (Refused why) = refusalNumber why
 
 -- "lowest applicable first. But 8 comes before 1 where both are checked, 12 before 11, and 11 before 10."
 abbrev pub inTurn : List Refusal
@@ -54,16 +54,16 @@ abbrev pub Rows : Type 0
 Rows = List (Refusal × Bool)
 
 -- the number of the first row that applies, or 0
-abbrev pub lowest : Rows → ℕ
-lowest [] = 0
-lowest (row ∷ rows) = cond (row .1) (numberOf (row .0)) (lowest rows)
+abbrev pub firstApplicable : Rows → ℕ
+firstApplicable [] = 0
+firstApplicable (row ∷ rows) = cond (row .1) (refusalNumber (row .0)) (firstApplicable rows)
 
 -- no row applies
 abbrev pub accepted : Rows → Bool
-accepted rows = eqb (lowest rows) 0
+accepted rows = eqb (firstApplicable rows) 0
 
 -- the rows stand in the order of the list
-abbrev pub standIn : List Refusal → Rows → Bool
-standIn turns [] = true
-standIn [] (row ∷ rows) = false
-standIn (turn ∷ turns) (row ∷ rows) = cond (eqb (numberOf turn) (numberOf (row .0))) (standIn turns rows) (standIn turns (row ∷ rows))
+abbrev pub inOrderOf : List Refusal → Rows → Bool
+inOrderOf turns [] = true
+inOrderOf [] (row ∷ rows) = false
+inOrderOf (turn ∷ turns) (row ∷ rows) = cond (eqb (refusalNumber turn) (refusalNumber (row .0))) (inOrderOf turns rows) (inOrderOf turns (row ∷ rows))

@@ -1,6 +1,6 @@
 // Why a call is refused, and the number that it then gives: document 01, "Numbers a call can give instead".
 ghost use mathlib.Core.Path.{_≡_};
-ghost use Rattle.refusals.specs.Refusals.{answerNumber, numberOf};
+ghost use Rattle.refusals.specs.Refusals.{answerNumber, refusalNumber};
 
 pub enum Refusal {
     // the log handed in breaks a rule
@@ -42,7 +42,7 @@ pub enum Answer {
 impl Refusal {
     // The paper's number.
     pub fn number(self) -> u8
-        ensures { λ n. ⌜ n ≡ numberOf self ⌝ }
+        ensures { λ n. ⌜ n ≡ refusalNumber self ⌝ }
     {
         match self {
             Refusal::BrokenLog => 1,

@@ -125,14 +125,14 @@ fn assessed(n: u8, f: Figures) -> bool {
     let revenue = f.revenue;
     let cap = f.cap;
     let floor = f.floor;
-    let within = f.within;
+    let wpa = f.wpa;
     let held = f.held;
     let adjustment = f.adjustment;
     say::number(n);
     say::pounds(revenue);
     say::pounds(cap);
     say::pounds(floor);
-    say::pounds(within);
+    say::pounds(wpa);
     say::pounds(held);
     say::pounds(adjustment);
     say::end()
@@ -146,7 +146,7 @@ fn answer(found: Assessment) -> bool {
                 revenue: 0,
                 cap: 0,
                 floor: 0,
-                within: 0,
+                wpa: 0,
                 held: 0,
                 adjustment: 0,
             };
@@ -178,13 +178,13 @@ fn rows_at(s: &[u8]) -> Yearly {
     let revenue = amounts_at(s, 4);
     let cap = amounts_at(s, 12);
     let floor = amounts_at(s, 20);
-    let within = amounts_at(s, 28);
+    let wpa = amounts_at(s, 28);
     Yearly {
         index,
         revenue,
         cap,
         floor,
-        within,
+        wpa,
     }
 }
 

@@ -4,7 +4,7 @@
 use super::asking;
 use super::fields::KEPT;
 use super::fields::of_year;
-use super::filings;
+use super::returns;
 use super::setting;
 use super::showing;
 use codec::number;
@@ -45,8 +45,8 @@ pub(crate) fn set_year(
     log: Log,
 ) -> AfterSet {
     match of_year(call, s) {
-        17_99999 => with(filings::read(s)),
-        21_00001 => with(filings::read_kept(kept, bytes)),
+        17_99999 => with(returns::read(s)),
+        21_00001 => with(returns::read_kept(kept, bytes)),
         35_00033 => with(setting::year(s, y)),
         36_00012 => with(setting::line(s, y)),
         37_00001 => with(setting::fresh()),
@@ -78,7 +78,7 @@ pub(crate) fn ask(
         6_00001 => asking::availability(s, book, log),
         7_00001 => asking::target(s, book, log),
         11_00000 => asking::period(book, years, log),
-        22_00004 => filings::refile_kept(s, kept, bytes),
+        22_00004 => returns::refile_kept(s, kept, bytes),
         48_00000 => showing::log(log),
         50_00000 => showing::book(book),
         _ => ask_of_year(call, s, book, y, log),
@@ -89,9 +89,9 @@ fn ask_of_year(call: u64, s: &[u8], book: Book, y: Year, log: Log) -> bool {
     match of_year(call, s) {
         8_00001 => asking::levels(book, y, log),
         9_00001 => asking::revenue(y),
-        18_00003 => filings::write(s, y, false),
+        18_00003 => returns::write(s, y, false),
         49_00001 => showing::year(y),
-        51_00003 => filings::write(s, y, true),
+        51_00003 => returns::write(s, y, true),
         _ => ask_of_value(call, s),
     }
 }
@@ -111,8 +111,8 @@ fn ask_of_value(call: u64, s: &[u8]) -> bool {
 
 fn ask_at_length(tag: u64, s: &[u8]) -> bool {
     match tag {
-        19 => filings::refile(s),
-        20 => filings::print(s),
+        19 => returns::refile(s),
+        20 => returns::print(s),
         _ => false,
     }
 }

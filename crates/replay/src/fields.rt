@@ -65,7 +65,7 @@ pub(crate) fn least(n: usize, most: usize) -> usize
 }
 
 // So many bytes, and no more than there are.
-pub(crate) fn held(n: usize, space: &[u8]) -> usize
+pub(crate) fn clipped(n: usize, space: &[u8]) -> usize
     ensures { λ r. ⌜ Counts r (now (space .entry)) ⌝ }
 {
     if space.len() < n { space.len() } else { n }
@@ -87,7 +87,7 @@ pub(crate) fn of_year(call: u64, s: &[u8]) -> u64 {
 fn value(space: &mut [u8], length: usize) -> usize
     ensures { λ r. ⌜ Counts r (now (space .exit)) ⌝ }
 {
-    let n = held(length, space);
+    let n = clipped(length, space);
     io::read_full(STDIN_FILENO, &mut space[..n])
 }
 

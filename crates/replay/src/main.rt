@@ -2,7 +2,7 @@
 mod asking;
 mod calls;
 mod fields;
-mod filings;
+mod returns;
 mod say;
 mod setting;
 mod showing;

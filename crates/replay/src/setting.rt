@@ -59,7 +59,7 @@ fn year_at(s: &[u8], y: Year) -> Year {
         lines,
         line_count: number(s, 25, 8) as usize,
         exceptional: u8_at(s, 16) == 1,
-        within: i64_at(s, 17),
+        wpa: i64_at(s, 17),
         log,
     }
 }

@@ -57,22 +57,22 @@ fn factors(number: u8, pppi: u32, rate: u32, aic: u16, pyc: u16, pyf: u16) {
 }
 
 // Its line count, its mark and W.
-fn rest(line_count: usize, exceptional: bool, within: i64) {
+fn rest(line_count: usize, exceptional: bool, wpa: i64) {
     say::figure(line_count as u64);
     say::figure(if exceptional { 1 } else { 0 });
-    say::pounds(within);
+    say::pounds(wpa);
 }
 
 // A year.
 pub(crate) fn year(y: Year) -> bool {
     let rows = y.lines;
-    let held = y.log;
+    let own = y.log;
     factors(y.number, y.pppi, y.rate, y.aic, y.pyc, y.pyf);
-    rest(y.line_count, y.exceptional, y.within);
+    rest(y.line_count, y.exceptional, y.wpa);
     lines(rows);
-    say::figure(held.count as u64);
-    say::figure(held.regime_end as u64);
-    entries(held);
+    say::figure(own.count as u64);
+    say::figure(own.regime_end as u64);
+    entries(own);
     say::end()
 }
 

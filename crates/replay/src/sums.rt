@@ -71,12 +71,9 @@ fn of_factors(number: u8, pppi: u32, rate: u32, aic: u16, pyc: u16, pyf: u16) ->
 }
 
 // Its line count, its mark and W more.
-fn more_of_rest(sum: u64, line_count: usize, exceptional: bool, within: i64) -> u64 {
+fn more_of_rest(sum: u64, line_count: usize, exceptional: bool, wpa: i64) -> u64 {
     let mark = if exceptional { 1 } else { 0 };
-    more_wide(
-        more(more_wide(sum, line_count as u64), mark),
-        unsigned(within),
-    )
+    more_wide(more(more_wide(sum, line_count as u64), mark), unsigned(wpa))
 }
 
 pub(crate) fn of_year(y: Year) -> u64 {
@@ -84,7 +81,7 @@ pub(crate) fn of_year(y: Year) -> u64 {
     let log = y.log;
     let sum = of_factors(y.number, y.pppi, y.rate, y.aic, y.pyc, y.pyf);
     let lined = more_of_lines(sum, lines);
-    let rest = more_of_rest(lined, y.line_count, y.exceptional, y.within);
+    let rest = more_of_rest(lined, y.line_count, y.exceptional, y.wpa);
     more_of_log(rest, log)
 }
 

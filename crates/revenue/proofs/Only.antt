@@ -3,7 +3,7 @@ use mathlib.Core.Path.{_≡_, refl, sym, _∙_}
 use mathlib.Core.Logic.{_⊎_, inl, inr}
 use mathlib.Core.Bool.{true}
 use lib.IntN.{pos}
-use Rattle.refusals.specs.Refusals.{inTurn, standIn}
+use Rattle.refusals.specs.Refusals.{inTurn, inOrderOf}
 use Rattle.refusals.specs.Answers.{One}
 use Rattle.refusals.proofs.Cases.{Refusing, Answers, same-case, one-case}
 use Rattle.year.specs.declared.Year.{Year}
@@ -30,5 +30,5 @@ only-revenue y r s p q = same-case revenue-answers r s (p .0 ∙ sym (q .0)) (p 
 pub one-revenue : (y : Year) → One (RevenueGives y)
 one-revenue y = one-case revenue-answers (revenueRows y) (assessedRevenue y)
 
-pub revenue-in-turn : (y : Year) → standIn inTurn (revenueRows y) ≡ true
+pub revenue-in-turn : (y : Year) → inOrderOf inTurn (revenueRows y) ≡ true
 revenue-in-turn y = refl

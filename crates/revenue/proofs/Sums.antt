@@ -11,8 +11,8 @@ use lib.Seq.{take-suc, getD-take, length-take-le}
 use lib.Signed.{ltZ}
 use borrow.Author.Tests.{lt-ltb, le-ltb, eq-eqb, ne-eqb}
 use Rattle.lists.proofs.Lists.{all-at}
-use Rattle.money.specs.Pounds.{heldZ}
-use Rattle.money.proofs.Pounds.{abs-add, held-small}
+use Rattle.money.specs.Pounds.{saturated}
+use Rattle.money.proofs.Pounds.{abs-add, saturated-small}
 use Rattle.year.specs.declared.Line.{Line}
 use Rattle.year.specs.Year.{goodLine, zeroLine}
 use Rattle.year.proofs.Says.{line-says, LinesSay}
@@ -81,10 +81,10 @@ pub added-none : (cmr : Bool) (rate : ℕ) (lines : List Line) → Added cmr rat
 unfolding summedOf
 added-none cmr rate lines = record { is = refl; small = omega arith }
 
-pub added-next : {cmr : Bool} {rate : ℕ} {lines : List Line} {k : ℕ} {sum x r : ℤ} → k < length lines → k < 64 → Added cmr rate lines k sum → x ≡ countedOf cmr rate (getD lines k zeroLine) → natAbs x ≤ 2000000000 → r ≡ heldZ (sum +ℤ x) → Added cmr rate lines (k + 1) r
+pub added-next : {cmr : Bool} {rate : ℕ} {lines : List Line} {k : ℕ} {sum x r : ℤ} → k < length lines → k < 64 → Added cmr rate lines k sum → x ≡ countedOf cmr rate (getD lines k zeroLine) → natAbs x ≤ 2000000000 → r ≡ saturated (sum +ℤ x) → Added cmr rate lines (k + 1) r
 added-next {cmr} {rate} {lines} {k} {sum} {x} {r} h few a e l w =
     let more : natAbs (sum +ℤ x) ≤ k * 2000000000 + 2000000000 = omega (arith, a .small, abs-add sum x) in
-    let is : r ≡ sum +ℤ x = w ∙ held-small (sum +ℤ x) (omega arith) in
+    let is : r ≡ sum +ℤ x = w ∙ saturated-small (sum +ℤ x) (omega arith) in
     record { is = is ∙ rw (a .is, e, summed-next cmr rate lines k h); small = rw is (omega arith) }
 
 lifted : (t : Bool) (z : ℤ) → natAbs (cond t (pos 0) z) ≤ natAbs z
@@ -97,7 +97,7 @@ unfolding atLeastZero
 lifted-small z = lifted (ltZ z (pos 0)) z
 
 -- both sums, of all good lines, are the total
-pub added-total : {rate : ℕ} {a b : ℤ} (lines : List Line) (count : ℕ) → LinesSay lines count → Added false rate lines count a → Added true rate lines count b → heldZ (a +ℤ atLeastZero b) ≡ NAR rate (take count lines)
+pub added-total : {rate : ℕ} {a b : ℤ} (lines : List Line) (count : ℕ) → LinesSay lines count → Added false rate lines count a → Added true rate lines count b → saturated (a +ℤ atLeastZero b) ≡ NAR rate (take count lines)
 added-total {rate} {a} {b} lines count s others cmr =
-    held-small (a +ℤ atLeastZero b) (omega (arith, others .small, cmr .small, s .few, abs-add a (atLeastZero b), lifted-small b))
+    saturated-small (a +ℤ atLeastZero b) (omega (arith, others .small, cmr .small, s .few, abs-add a (atLeastZero b), lifted-small b))
     ∙ rw (others .is, cmr .is) (total-is rate (take count lines) (s .good))

@@ -128,7 +128,7 @@ module _ (rate : ℕ) where
   -- the others, and capacity market revenue lifted to zero, are the total
   pub total-is : (ls : List Line) → all goodLine ls ≡ true → summedOf false rate ls +ℤ atLeastZero (summedOf true rate ls) ≡ NAR rate ls
   total-is ls e =
-      let of : ℕ → ℤ = λ k. sumOfKind k rate ls in
+      let kindSum : ℕ → ℤ = λ k. sumOfKind k rate ls in
       ap (λ (z : ℤ). z +ℤ atLeastZero (summedOf true rate ls)) (others-is ls e)
-      ∙ ap (λ (z : ℤ). others of +ℤ atLeastZero z) (cmr-is ls)
-      ∙ apart (of 1 +ℤ of 6) (atLeastZero (of 2)) (of 5 ∷ of 4 ∷ of 3 ∷ of 10 ∷ negℤ (costs of) ∷ negℤ (of 11) ∷ [])
+      ∙ ap (λ (z : ℤ). others kindSum +ℤ atLeastZero z) (cmr-is ls)
+      ∙ apart (kindSum 1 +ℤ kindSum 6) (atLeastZero (kindSum 2)) (kindSum 5 ∷ kindSum 4 ∷ kindSum 3 ∷ kindSum 10 ∷ negℤ (costs kindSum) ∷ negℤ (kindSum 11) ∷ [])

@@ -7,12 +7,12 @@ use lib.Dec.{leb, ltb, eqb}
 use lib.ListN.{take}
 use lib.IntN.{ℤ, pos, negℤ, natAbs, _+ℤ_, _-ℤ_, _*ℤ_}
 use lib.Signed.{ltZ}
-use Rattle.refusals.specs.Refusals.{Rows, accepted, numberOf, lowest}
+use Rattle.refusals.specs.Refusals.{Rows, accepted, refusalNumber, firstApplicable}
 use Rattle.refusals.specs.declared.Refusal.the-variants.{BadYear, TooLarge}
 use Rattle.money.specs.Rounding.{roundZ}
 use Rattle.year.specs.declared.Line.{Line}
 use Rattle.year.specs.declared.Year.{Year}
-use Rattle.year.specs.Year.{goodYearRecord}
+use Rattle.year.specs.Year.{goodYear}
 use Rattle.revenue.specs.declared.Revenue.{Revenue}
 use Rattle.revenue.specs.declared.Revenue.the-variants.{Pounds, Refused}
 
@@ -90,14 +90,14 @@ assessedRevenue y = NAR (y .rate) (take (y .«line_count») (y .lines))
 
 -- ---- the call
 abbrev pub revenueRows : Year → Rows
-revenueRows y = (BadYear, not (goodYearRecord y)) ∷ (TooLarge, not (leb (natAbs (assessedRevenue y)) 1000000000)) ∷ []
+revenueRows y = (BadYear, not (goodYear y)) ∷ (TooLarge, not (leb (natAbs (assessedRevenue y)) 1000000000)) ∷ []
 
 abbrev pub revenueGiven : Year → ℤ
 revenueGiven y = cond (accepted (revenueRows y)) (assessedRevenue y) (pos 0)
 
 abbrev pub revenueNumber : Revenue → ℕ
 revenueNumber (Pounds z) = 0
-revenueNumber (Refused why) = numberOf why
+revenueNumber (Refused why) = refusalNumber why
 
 abbrev pub revenueFigure : Revenue → ℤ
 revenueFigure (Pounds z) = z
@@ -105,7 +105,7 @@ revenueFigure (Refused why) = pos 0
 
 -- what `revenue_of` promises of its result
 abbrev pub RevenueGives : Year → Revenue → Type 0
-RevenueGives y r = (revenueNumber r ≡ lowest (revenueRows y)) × (revenueFigure r ≡ revenueGiven y)
+RevenueGives y r = (revenueNumber r ≡ firstApplicable (revenueRows y)) × (revenueFigure r ≡ revenueGiven y)
 
 -- ---- the same line by line
 -- what a line's pounds count by its kind, in the sum of kind 2 where `cmr` holds, among the others where it does not

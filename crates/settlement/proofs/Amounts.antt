@@ -11,11 +11,11 @@ use lib.Signed.{ltZ}
 use borrow.Author.Tests.{lt-ltb, leb-true}
 use Rattle.lists.proofs.Tests.{and-right, not-no, not-yes}
 use Rattle.refusals.specs.declared.Refusal.{Refusal}
-use Rattle.refusals.specs.Refusals.{lowest, numberOf}
+use Rattle.refusals.specs.Refusals.{firstApplicable, refusalNumber}
 use Rattle.refusals.proofs.Laws.{all-clear, last-row}
 use Rattle.refusals.specs.declared.Refusal.the-variants.{BadPeriod}
-use Rattle.money.specs.Pounds.{heldZ}
-use Rattle.money.proofs.Pounds.{held-small, held-within}
+use Rattle.money.specs.Pounds.{saturated}
+use Rattle.money.proofs.Pounds.{saturated-small, saturated-within}
 use Rattle.money.proofs.Nearest.{debit-on, credit-on}
 use Rattle.settlement.specs.declared.medians.Period.{Period}
 use Rattle.settlement.specs.declared.medians.Gap.{Gap}
@@ -37,11 +37,11 @@ pub paid-fits : (z : ℤ) (n : ℕ) → natAbs z ≤ 10000000000 → n < 500 →
 paid-fits z n h w = cut-small (natAbs z * growthOf n) (product (natAbs z) (growthOf n) h (growth-small n w))
 
 -- ---- the sign restored, and nothing lost by holding to what fits
-pub debit-is : (z : ℤ) (n : ℕ) → natAbs z * growthOf n / 1000000000 < 2 ^ 63 → ltZ z (pos 0) ≡ true → heldZ (negℤ (pos (natAbs z * growthOf n / 1000000000))) ≡ paidOf z n
+pub debit-is : (z : ℤ) (n : ℕ) → natAbs z * growthOf n / 1000000000 < 2 ^ 63 → ltZ z (pos 0) ≡ true → saturated (negℤ (pos (natAbs z * growthOf n / 1000000000))) ≡ paidOf z n
 unfolding paidOf
 debit-is z n h e = debit-on (λ (m : ℕ). m * growthOf n / 1000000000) z h e
 
-pub credit-is : (z : ℤ) (n : ℕ) → natAbs z * growthOf n / 1000000000 < 2 ^ 63 → ltZ z (pos 0) ≡ false → heldZ (pos (natAbs z * growthOf n / 1000000000)) ≡ paidOf z n
+pub credit-is : (z : ℤ) (n : ℕ) → natAbs z * growthOf n / 1000000000 < 2 ^ 63 → ltZ z (pos 0) ≡ false → saturated (pos (natAbs z * growthOf n / 1000000000)) ≡ paidOf z n
 unfolding paidOf
 credit-is z n h e = credit-on (λ (m : ℕ). m * growthOf n / 1000000000) z h e
 
@@ -57,7 +57,7 @@ pub record Told (a b : Period) (n : ℕ) : Type 0 where
   pub few : n < 500
 
 -- a gap is given where no row applies
-pub gap-told : (g : Gap) (a b : Period) (n : ℕ) → g ≡ gap.Hundredths n → gapNumber g ≡ lowest (gapRows a b) → gapFigure g ≡ gapGiven a b → Told a b n
+pub gap-told : (g : Gap) (a b : Period) (n : ℕ) → g ≡ gap.Hundredths n → gapNumber g ≡ firstApplicable (gapRows a b) → gapFigure g ≡ gapGiven a b → Told a b n
 gap-told g a b n e num fig = record { holds = holds; figure = figure; few = subst (λ (k : ℕ). k < 500) (sym figure) (least (hundredths (daySum a) (daySum b)) good) }
   where
     holds : gapHolds a b ≡ true
@@ -72,18 +72,18 @@ gap-told g a b n e num fig = record { holds = holds; figure = figure; few = subs
         (and-right (goodPeriod a) (goodPeriod b && goodHundredths (hundredths (daySum a) (daySum b))) holds)
 
 -- and refused where the row does
-pub gap-refused : (g : Gap) (a b : Period) (why : Refusal) → g ≡ gap.Refused why → gapNumber g ≡ lowest (gapRows a b) → (numberOf why ≡ 12) × (gapHolds a b ≡ false)
+pub gap-refused : (g : Gap) (a b : Period) (why : Refusal) → g ≡ gap.Refused why → gapNumber g ≡ firstApplicable (gapRows a b) → (refusalNumber why ≡ 12) × (gapHolds a b ≡ false)
 gap-refused g a b why e num =
     let k = last-row [] BadPeriod why (not (gapHolds a b)) tt (sym (ap gapNumber e) ∙ num) in
-    (ap numberOf (k .1), not-yes (gapHolds a b) (k .0))
+    (ap refusalNumber (k .1), not-yes (gapHolds a b) (k .0))
 
 -- over an allowed gap an adjustment is paid as an amount is
-pub settle-as-pay : (z : ℤ) (a b : Period) (n : ℕ) → Told a b n → (lowest (payRows z n) ≡ lowest (settleRows z a b)) × (payGiven z n ≡ settleGiven z a b)
+pub settle-as-pay : (z : ℤ) (a b : Period) (n : ℕ) → Told a b n → (firstApplicable (payRows z n) ≡ firstApplicable (settleRows z a b)) × (payGiven z n ≡ settleGiven z a b)
 settle-as-pay z a b n t = simp (lt-ltb n 500 (t .few), t .holds, ← t .figure) (refl, refl)
 
 -- ---- a difference held to what fits is settled as the exact one
-pub held-rows : (z : ℤ) (a b : Period) → lowest (settleRows (heldZ z) a b) ≡ lowest (settleRows z a b)
-held-rows z a b = simp (held-within z 10000000000 (lit< tt))
+pub saturated-rows : (z : ℤ) (a b : Period) → firstApplicable (settleRows (saturated z) a b) ≡ firstApplicable (settleRows z a b)
+saturated-rows z a b = simp (saturated-within z 10000000000 (lit< tt))
 
 nothing : (g : Bool) (y : ℤ) → cond (eqb (cond (not g) 12 11) 0) y (pos 0) ≡ pos 0
 nothing true y = refl
@@ -92,9 +92,9 @@ nothing false y = refl
 over-limit : (z : ℤ) (a b : Period) → leb (natAbs z) 10000000000 ≡ false → settleGiven z a b ≡ pos 0
 over-limit z a b e = simp e (nothing (gapHolds a b) (paidOf z (natAbs (hundredths (daySum a) (daySum b)))))
 
-pub held-given : (z : ℤ) (a b : Period) → settleGiven (heldZ z) a b ≡ settleGiven z a b
-held-given z a b = by (leb (natAbs z) 10000000000) refl
+pub saturated-given : (z : ℤ) (a b : Period) → settleGiven (saturated z) a b ≡ settleGiven z a b
+saturated-given z a b = by (leb (natAbs z) 10000000000) refl
   where
-    by : (t : Bool) → leb (natAbs z) 10000000000 ≡ t → settleGiven (heldZ z) a b ≡ settleGiven z a b
-    by true e = let h = leb-true (natAbs z) 10000000000 e in ap (λ (x : ℤ). settleGiven x a b) (held-small z (omega arith))
-    by false e = over-limit (heldZ z) a b (held-within z 10000000000 (lit< tt) ∙ e) ∙ sym (over-limit z a b e)
+    by : (t : Bool) → leb (natAbs z) 10000000000 ≡ t → settleGiven (saturated z) a b ≡ settleGiven z a b
+    by true e = let h = leb-true (natAbs z) 10000000000 e in ap (λ (x : ℤ). settleGiven x a b) (saturated-small z (omega arith))
+    by false e = over-limit (saturated z) a b (saturated-within z 10000000000 (lit< tt) ∙ e) ∙ sym (over-limit z a b e)

@@ -4,7 +4,7 @@ use mathlib.Core.Logic.{_⊎_, inl, inr}
 use mathlib.Core.Bool.{true}
 use Prim.Native.Nat.{ℕ}
 use lib.IntN.{ℤ, pos, natAbs, _-ℤ_}
-use Rattle.refusals.specs.Refusals.{inTurn, standIn}
+use Rattle.refusals.specs.Refusals.{inTurn, inOrderOf}
 use Rattle.refusals.specs.Answers.{One}
 use Rattle.refusals.proofs.Cases.{Refusing, Answers, same-case, one-case}
 use Rattle.settlement.specs.declared.medians.Period.{Period}
@@ -93,18 +93,18 @@ pub one-reconcile : (final provisional : ℤ) (settled reconciled : Period) → 
 one-reconcile final provisional settled reconciled = one-settle (final -ℤ provisional) settled reconciled
 
 -- ---- each call's rows stand in the order of refusals
-pub gap-in-turn : (earlier later : Period) → standIn inTurn (gapRows earlier later) ≡ true
+pub gap-in-turn : (earlier later : Period) → inOrderOf inTurn (gapRows earlier later) ≡ true
 gap-in-turn earlier later = refl
 
-pub growth-in-turn : (n : ℕ) → standIn inTurn (growthRows n) ≡ true
+pub growth-in-turn : (n : ℕ) → inOrderOf inTurn (growthRows n) ≡ true
 growth-in-turn n = refl
 
-pub pay-in-turn : (amount : ℤ) (n : ℕ) → standIn inTurn (payRows amount n) ≡ true
+pub pay-in-turn : (amount : ℤ) (n : ℕ) → inOrderOf inTurn (payRows amount n) ≡ true
 pay-in-turn amount n = refl
 
-pub settle-in-turn : (adjustment : ℤ) (measured settled : Period) → standIn inTurn (settleRows adjustment measured settled) ≡ true
+pub settle-in-turn : (adjustment : ℤ) (measured settled : Period) → inOrderOf inTurn (settleRows adjustment measured settled) ≡ true
 settle-in-turn adjustment measured settled = refl
 
 pub reconcile-in-turn : (final provisional : ℤ) (settled reconciled : Period)
-    → standIn inTurn (reconcileRows final provisional settled reconciled) ≡ true
+    → inOrderOf inTurn (reconcileRows final provisional settled reconciled) ≡ true
 reconcile-in-turn final provisional settled reconciled = refl

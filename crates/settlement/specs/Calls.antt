@@ -5,7 +5,7 @@ use mathlib.Core.Path.{_≡_}
 use Prim.Native.Nat.{ℕ}
 use lib.Dec.{leb, ltb}
 use lib.IntN.{ℤ, pos, natAbs, _-ℤ_}
-use Rattle.refusals.specs.Refusals.{Rows, accepted, numberOf, lowest}
+use Rattle.refusals.specs.Refusals.{Rows, accepted, refusalNumber, firstApplicable}
 use Rattle.refusals.specs.declared.Refusal.the-variants.{BadPeriod, TooLarge}
 use Rattle.settlement.specs.declared.medians.Period.{Period}
 use Rattle.settlement.specs.declared.medians.Gap.{Gap}
@@ -15,7 +15,7 @@ use Rattle.settlement.specs.declared.table.Growth.the-variants as growth
 use Rattle.settlement.specs.declared.paying.Payment.{Payment}
 use Rattle.settlement.specs.declared.paying.Payment.the-variants as payment
 use Rattle.settlement.specs.Gap.{goodPeriod, daySum, hundredths, goodHundredths}
-use Rattle.settlement.specs.Growth.{entries, growthOf, paidOf}
+use Rattle.settlement.specs.Growth.{growthEntries, growthOf, paidOf}
 
 -- ---- the gap of two periods
 abbrev pub sumsFigure : ℕ → ℕ → ℕ
@@ -32,7 +32,7 @@ gapGiven earlier later = cond (accepted (gapRows earlier later)) (natAbs (hundre
 
 abbrev pub gapNumber : Gap → ℕ
 gapNumber (gap.Hundredths n) = 0
-gapNumber (gap.Refused why) = numberOf why
+gapNumber (gap.Refused why) = refusalNumber why
 
 abbrev pub gapFigure : Gap → ℕ
 gapFigure (gap.Hundredths n) = n
@@ -40,18 +40,18 @@ gapFigure (gap.Refused why) = 0
 
 -- what `gap_between` promises of its result
 abbrev pub GapGives : Period → Period → Gap → Type 0
-GapGives earlier later r = (gapNumber r ≡ lowest (gapRows earlier later)) × (gapFigure r ≡ gapGiven earlier later)
+GapGives earlier later r = (gapNumber r ≡ firstApplicable (gapRows earlier later)) × (gapFigure r ≡ gapGiven earlier later)
 
 -- ---- growth at n
 abbrev pub growthRows : ℕ → Rows
-growthRows n = (BadPeriod, not (ltb n entries)) ∷ []
+growthRows n = (BadPeriod, not (ltb n growthEntries)) ∷ []
 
 abbrev pub growthGiven : ℕ → ℕ
 growthGiven n = cond (accepted (growthRows n)) (growthOf n) 0
 
 abbrev pub growthNumber : Growth → ℕ
 growthNumber (growth.Billionths e) = 0
-growthNumber (growth.Refused why) = numberOf why
+growthNumber (growth.Refused why) = refusalNumber why
 
 abbrev pub growthFigure : Growth → ℕ
 growthFigure (growth.Billionths e) = e
@@ -59,21 +59,21 @@ growthFigure (growth.Refused why) = 0
 
 -- what `growth_at` promises of its result
 abbrev pub GrowthGives : ℕ → Growth → Type 0
-GrowthGives n r = (growthNumber r ≡ lowest (growthRows n)) × (growthFigure r ≡ growthGiven n)
+GrowthGives n r = (growthNumber r ≡ firstApplicable (growthRows n)) × (growthFigure r ≡ growthGiven n)
 
 -- ---- a payment of an amount over n hundredths of a year
 abbrev pub tooLarge : ℤ → Bool
 tooLarge amount = not (leb (natAbs amount) 10000000000)
 
 abbrev pub payRows : ℤ → ℕ → Rows
-payRows amount n = (BadPeriod, not (ltb n entries)) ∷ (TooLarge, tooLarge amount) ∷ []
+payRows amount n = (BadPeriod, not (ltb n growthEntries)) ∷ (TooLarge, tooLarge amount) ∷ []
 
 abbrev pub payGiven : ℤ → ℕ → ℤ
 payGiven amount n = cond (accepted (payRows amount n)) (paidOf amount n) (pos 0)
 
 abbrev pub payNumber : Payment → ℕ
 payNumber (payment.Pounds z) = 0
-payNumber (payment.Refused why) = numberOf why
+payNumber (payment.Refused why) = refusalNumber why
 
 abbrev pub payFigure : Payment → ℤ
 payFigure (payment.Pounds z) = z
@@ -81,7 +81,7 @@ payFigure (payment.Refused why) = pos 0
 
 -- what `pay` promises of its result
 abbrev pub PayGives : ℤ → ℕ → Payment → Type 0
-PayGives amount n r = (payNumber r ≡ lowest (payRows amount n)) × (payFigure r ≡ payGiven amount n)
+PayGives amount n r = (payNumber r ≡ firstApplicable (payRows amount n)) × (payFigure r ≡ payGiven amount n)
 
 -- ---- equation 1: an adjustment measured over one period, paid in a later one
 abbrev pub settleRows : ℤ → Period → Period → Rows
@@ -94,7 +94,7 @@ settleGiven adjustment measured settled =
 -- what `settle` promises of its result
 abbrev pub SettleGives : ℤ → Period → Period → Payment → Type 0
 SettleGives adjustment measured settled r =
-    (payNumber r ≡ lowest (settleRows adjustment measured settled)) × (payFigure r ≡ settleGiven adjustment measured settled)
+    (payNumber r ≡ firstApplicable (settleRows adjustment measured settled)) × (payFigure r ≡ settleGiven adjustment measured settled)
 
 -- ---- equation 2: the final payment less the provisional one, over the later gap
 abbrev pub reconcileRows : ℤ → ℤ → Period → Period → Rows
@@ -106,4 +106,4 @@ reconcileGiven final provisional settled reconciled = settleGiven (final -ℤ pr
 -- what `reconcile` promises of its result
 abbrev pub ReconcileGives : ℤ → ℤ → Period → Period → Payment → Type 0
 ReconcileGives final provisional settled reconciled r =
-    (payNumber r ≡ lowest (reconcileRows final provisional settled reconciled)) × (payFigure r ≡ reconcileGiven final provisional settled reconciled)
+    (payNumber r ≡ firstApplicable (reconcileRows final provisional settled reconciled)) × (payFigure r ≡ reconcileGiven final provisional settled reconciled)

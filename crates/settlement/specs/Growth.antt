@@ -5,8 +5,8 @@ use lib.Dec.{leb}
 use lib.IntN.{ℤ}
 use Rattle.money.specs.Rounding.{onMagnitude}
 
-abbrev pub entries : ℕ
-entries = 500
+abbrev pub growthEntries : ℕ
+growthEntries = 500
 
 -- the greatest number up to `most` that passes a test, or 0
 unfoldable pub greatest : (ℕ → Bool) → ℕ → ℕ

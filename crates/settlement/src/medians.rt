@@ -4,7 +4,7 @@ ghost use mathlib.Core.Path.{_≡_};
 ghost use mathlib.Core.Bool.{not};
 ghost use mathlib.Core.List.{[], _∷_};
 ghost use Prim.Native.Nat.{_≤_};
-ghost use Rattle.refusals.specs.Refusals.{lowest};
+ghost use Rattle.refusals.specs.Refusals.{firstApplicable};
 ghost use Rattle.refusals.specs.declared.Refusal.the-variants.{BadPeriod};
 ghost use Rattle.settlement.specs.Gap.{goodHundredths, goodPeriod, hundredths};
 ghost use Rattle.settlement.specs.Calls.{gapFigure, gapNumber, sumsFigure, GapGives};
@@ -39,7 +39,7 @@ pub(crate) fn good_period(p: Period) -> bool
 fn gap_of_sums(earlier: u64, later: u64) -> Gap
     requires { ⌜ (earlier ≤ 146100) × (later ≤ 146100) ⌝ }
     ensures { λ r. ⌜
-        (gapNumber r ≡ lowest ((BadPeriod, not (goodHundredths (hundredths earlier later))) ∷ []))
+        (gapNumber r ≡ firstApplicable ((BadPeriod, not (goodHundredths (hundredths earlier later))) ∷ []))
         × (gapFigure r ≡ sumsFigure earlier later)
         ⌝ }
 {

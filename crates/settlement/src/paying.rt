@@ -14,7 +14,7 @@ use refusals::Refusal;
 ghost use mathlib.Core.Path.{_≡_};
 ghost use Prim.Native.Nat.{_<_, _≤_};
 ghost use lib.IntN.{natAbs};
-ghost use Rattle.settlement.specs.Growth.{entries, paidOf};
+ghost use Rattle.settlement.specs.Growth.{growthEntries, paidOf};
 ghost use Rattle.settlement.specs.Calls.{PayGives, SettleGives, ReconcileGives};
 
 // Whole pounds to pay, or why there is no payment.
@@ -30,7 +30,7 @@ impl Payment {
 
 // The amount grown over n hundredths of a year, rounded toward zero.
 fn grown(amount: i64, n: u32) -> i64
-    requires { ⌜ (natAbs amount ≤ 10000000000) × (n < entries) ⌝ }
+    requires { ⌜ (natAbs amount ≤ 10000000000) × (n < growthEntries) ⌝ }
     ensures { λ r. ⌜ r ≡ paidOf amount n ⌝ }
 {
     let m = magnitude(amount) * entry(n) / 1_000_000_000;

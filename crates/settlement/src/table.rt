@@ -2,7 +2,7 @@
 use refusals::Refusal;
 ghost use mathlib.Core.Path.{_≡_};
 ghost use Prim.Native.Nat.{_<_};
-ghost use Rattle.settlement.specs.Growth.{entries, growthOf};
+ghost use Rattle.settlement.specs.Growth.{growthEntries, growthOf};
 ghost use Rattle.settlement.specs.Calls.{GrowthGives};
 
 // Entry n is 10^9 x 1.0388^(n/100), rounded down.
@@ -522,7 +522,7 @@ impl Growth {
 
 // Entry n of the table.
 pub(crate) fn entry(n: u32) -> u64
-    requires { ⌜ n < entries ⌝ }
+    requires { ⌜ n < growthEntries ⌝ }
     ensures { λ r. ⌜ (r ≡ growthOf n) × (r < 1300000000) ⌝ }
 {
     ENTRIES[n as usize]

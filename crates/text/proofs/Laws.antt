@@ -23,8 +23,8 @@ pushed-append t [] b = refl
 pushed-append t (x ∷ a) b = pushed-append (pushedByte t x) a b
 
 -- where there is room, a byte more is held too
-byte-held : (a : List ℕ) (x : ℕ) → length a < 64 → pushedByte (textOf a) x ≡ textOf (a ++ (x ∷ []))
-byte-held a x h =
+byte-pushed : (a : List ℕ) (x : ℕ) → length a < 64 → pushedByte (textOf a) x ≡ textOf (a ++ (x ∷ []))
+byte-pushed a x h =
     let n : length (a ++ (x ∷ [])) ≡ length a + 1 = length-append a (x ∷ []) in
     let f : 64 - length a ≡ suc (64 - (length a + 1)) = omega arith in
     rw (lt-ltb (length a) 64 h, n, f, set-append-seam, append-snoc)
@@ -34,7 +34,7 @@ pub pushed-text : (a b : List ℕ) → length a + length b ≤ 64 → pushed (te
 unfolding pushed
 pushed-text a [] h = ap textOf (sym (append-nil a))
 pushed-text a (x ∷ b) h =
-    ap (λ (t : Text). pushed t b) (byte-held a x (omega arith))
+    ap (λ (t : Text). pushed t b) (byte-pushed a x (omega arith))
     ∙ pushed-text (a ++ (x ∷ [])) b (omega (arith, length-append a (x ∷ [])))
     ∙ ap textOf (append-snoc a x b)
 

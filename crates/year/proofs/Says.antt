@@ -16,10 +16,10 @@ use Rattle.refusals.specs.declared.Answer.the-variants.{Done, Refused}
 use Rattle.refusals.specs.Refusals.{answerNumber}
 use Rattle.refusals.proofs.Laws.{all-clear, done-clear, last-row}
 use Rattle.refusals.specs.declared.Refusal.the-variants.{BadYear}
-use Rattle.calendar.specs.Years.{goodYear, lastYear}
+use Rattle.calendar.specs.Years.{goodYearNumber, lastYear}
 use Rattle.year.specs.declared.Line.{Line}
 use Rattle.year.specs.declared.Year.{Year}
-use Rattle.year.specs.Year.{goodPppi, goodRate, goodFactors, goodAmount, eitherSign, goodLine, isZeroLine, goodLines, lineSlots, goodYearRecord, yearRows, CheckGives}
+use Rattle.year.specs.Year.{goodPppi, goodRate, goodFactors, goodLineAmount, goodWpa, eitherSign, goodLine, isZeroLine, goodLines, lineSlots, goodYear, checkYearRows, CheckYearGives}
 
 -- ---- a line
 pub record LineSays (l : Line) : Type 0 where
@@ -33,7 +33,7 @@ pub line-says : (l : Line) → goodLine l ≡ true → LineSays l
 line-says l g =
     let k = leb 1 (l .kind) && leb (l .kind) 11 in
     let c = leb (l .currency) 1 in
-    let a = goodAmount (l .amount) in
+    let a = goodLineAmount (l .amount) in
     let s = eitherSign (l .kind) || nonNeg (l .amount) in
     let kinds = and-left k (c && (a && s)) g in
     let rest = and-right k (c && (a && s)) g in
@@ -69,7 +69,7 @@ rate-most rate g = leb-true rate 200000 (and-right (leb 1 rate) (leb rate 200000
 
 -- ---- a year, all of it but its log
 pub record YearSays (y : Year) : Type 0 where
-  pub number : goodYear (y .number) ≡ true
+  pub number : goodYearNumber (y .number) ≡ true
   pub from-first : 1 ≤ y .number
   pub to-last : y .number ≤ lastYear
   pub pppi : goodPppi (y .pppi) ≡ true
@@ -77,18 +77,18 @@ pub record YearSays (y : Year) : Type 0 where
   pub aic : y .aic ≤ 20000
   pub pyc : y .pyc ≤ 10000
   pub pyf : y .pyf ≤ 10000
-  pub within : goodAmount (y .within) ≡ true
+  pub wpa : goodWpa (y .wpa) ≡ true
   pub lines : goodLines (y .lines) (y .«line_count») ≡ true
 
-pub year-says : (y : Year) → goodYearRecord y ≡ true → YearSays y
+pub year-says : (y : Year) → goodYear y ≡ true → YearSays y
 year-says y g =
-    let n = goodYear (y .number) in
+    let n = goodYearNumber (y .number) in
     let i = goodPppi (y .pppi) in
     let e = goodRate (y .rate) in
     let a = leb (y .aic) 20000 in
     let c = leb (y .pyc) 10000 in
     let f = leb (y .pyf) 10000 in
-    let w = goodAmount (y .within) in
+    let w = goodWpa (y .wpa) in
     let l = goodLines (y .lines) (y .«line_count») in
     let factors = goodFactors (y .number) (y .pppi) (y .rate) (y .aic) (y .pyc) (y .pyf) in
     let p = and-left factors (w && l) g in
@@ -107,14 +107,14 @@ year-says y g =
       aic = leb-true (y .aic) 20000 (and-left a (c && f) s);
       pyc = leb-true (y .pyc) 10000 (and-left c f t);
       pyf = leb-true (y .pyf) 10000 (and-right c f t);
-      within = and-left w l others;
+      wpa = and-left w l others;
       lines = and-right w l others;
     }
 
 -- ---- the check's answer
-module _ (y : Year) (a : Answer) (g : CheckGives y a) where
-  pub checked-good : a ≡ Done → goodYearRecord y ≡ true
-  checked-good e = not-no (goodYearRecord y) (all-clear (yearRows y) (done-clear a (yearRows y) g e) .0)
+module _ (y : Year) (a : Answer) (g : CheckYearGives y a) where
+  pub checked-good : a ≡ Done → goodYear y ≡ true
+  checked-good e = not-no (goodYear y) (all-clear (checkYearRows y) (done-clear a (checkYearRows y) g e) .0)
 
-  pub checked-bad : (why : Refusal) → a ≡ Refused why → goodYearRecord y ≡ false
-  checked-bad why e = not-yes (goodYearRecord y) (last-row [] BadYear why (not (goodYearRecord y)) tt (sym (ap answerNumber e) ∙ g) .0)
+  pub checked-bad : (why : Refusal) → a ≡ Refused why → goodYear y ≡ false
+  checked-bad why e = not-yes (goodYear y) (last-row [] BadYear why (not (goodYear y)) tt (sym (ap answerNumber e) ∙ g) .0)

@@ -8,11 +8,11 @@ use lib.ListN.{take, drop, replicate}
 use lib.IntN.{ℤ, pos, natAbs}
 use lib.Signed.{nonNeg}
 use Rattle.lists.specs.Lists.{all}
-use Rattle.refusals.specs.Refusals.{Rows, lowest, answerNumber}
+use Rattle.refusals.specs.Refusals.{Rows, firstApplicable, answerNumber}
 use Rattle.refusals.specs.declared.Refusal.the-variants.{BadYear}
 use Rattle.refusals.specs.declared.Answer.{Answer}
-use Rattle.calendar.specs.Years.{goodYear}
-use Rattle.outage.specs.Log.{holding, lastRegimeEnd}
+use Rattle.calendar.specs.Years.{goodYearNumber}
+use Rattle.outage.specs.Log.{logHolding, lastRegimeEnd}
 use Rattle.year.specs.declared.Line.{Line}
 use Rattle.year.specs.declared.Year.{Year}
 
@@ -35,8 +35,8 @@ freshYear = record {
   lines = replicate lineSlots zeroLine;
   «line_count» = 0;
   exceptional = false;
-  within = pos 0;
-  log = holding lastRegimeEnd [];
+  wpa = pos 0;
+  log = logHolding lastRegimeEnd [];
 }
 
 -- ---- ranges
@@ -51,11 +51,15 @@ goodRate rate = leb 1 rate && leb rate 200000
 -- "AIC 0 to 20,000", "PYC, PYF 0 to 10,000"
 abbrev pub goodFactors : ℕ → ℕ → ℕ → ℕ → ℕ → ℕ → Bool
 goodFactors number pppi rate aic pyc pyf =
-    goodYear number && (goodPppi pppi && (goodRate rate && (leb aic 20000 && (leb pyc 10000 && leb pyf 10000))))
+    goodYearNumber number && (goodPppi pppi && (goodRate rate && (leb aic 20000 && (leb pyc 10000 && leb pyf 10000))))
 
 -- "an amount of magnitude at most 10^9"
-abbrev pub goodAmount : ℤ → Bool
-goodAmount z = leb (natAbs z) 1000000000
+abbrev pub goodLineAmount : ℤ → Bool
+goodLineAmount z = leb (natAbs z) 1000000000
+
+-- and so has a within-period adjustment
+abbrev pub goodWpa : ℤ → Bool
+goodWpa z = leb (natAbs z) 1000000000
 
 -- the table of kinds: 1, 3, 4, 5 and 6 are not negative; 2 and 7 to 11 have either sign
 abbrev pub eitherSign : ℕ → Bool
@@ -63,7 +67,7 @@ eitherSign kind = eqb kind 2 || leb 7 kind
 
 abbrev pub goodLine : Line → Bool
 goodLine l =
-    (leb 1 (l .kind) && leb (l .kind) 11) && (leb (l .currency) 1 && (goodAmount (l .amount) && (eitherSign (l .kind) || nonNeg (l .amount))))
+    (leb 1 (l .kind) && leb (l .kind) 11) && (leb (l .currency) 1 && (goodLineAmount (l .amount) && (eitherSign (l .kind) || nonNeg (l .amount))))
 
 abbrev pub isZeroLine : Line → Bool
 isZeroLine l = eqb (l .kind) 0 && (eqb (l .currency) 0 && eqb (natAbs (l .amount)) 0)
@@ -73,13 +77,13 @@ abbrev pub goodLines : List Line → ℕ → Bool
 goodLines lines count = leb count lineSlots && (all goodLine (take count lines) && all isZeroLine (drop count lines))
 
 -- ---- a year, all of it but its log
-abbrev pub goodYearRecord : Year → Bool
-goodYearRecord y =
-    goodFactors (y .number) (y .pppi) (y .rate) (y .aic) (y .pyc) (y .pyf) && (goodAmount (y .within) && goodLines (y .lines) (y .«line_count»))
+abbrev pub goodYear : Year → Bool
+goodYear y =
+    goodFactors (y .number) (y .pppi) (y .rate) (y .aic) (y .pyc) (y .pyf) && (goodWpa (y .wpa) && goodLines (y .lines) (y .«line_count»))
 
-abbrev pub yearRows : Year → Rows
-yearRows y = (BadYear, not (goodYearRecord y)) ∷ []
+abbrev pub checkYearRows : Year → Rows
+checkYearRows y = (BadYear, not (goodYear y)) ∷ []
 
 -- what `check_year` promises of its result
-abbrev pub CheckGives : Year → Answer → Type 0
-CheckGives y r = answerNumber r ≡ lowest (yearRows y)
+abbrev pub CheckYearGives : Year → Answer → Type 0
+CheckYearGives y r = answerNumber r ≡ firstApplicable (checkYearRows y)

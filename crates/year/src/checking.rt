@@ -1,7 +1,6 @@
 // Whether a year is in range: all of it but its log.
 use super::Line;
 use super::Year;
-use calendar::YearMinutes;
 use money::is_negative;
 use money::magnitude;
 use money::within;
@@ -13,7 +12,7 @@ ghost use Prim.Native.Nat.{_≤_};
 ghost use lib.Dec.{ltb};
 ghost use lib.ListN.{drop, take};
 ghost use Rattle.lists.specs.Lists.{all};
-ghost use Rattle.year.specs.Year.{goodFactors, goodLine, goodLines, isZeroLine, lineSlots, CheckGives};
+ghost use Rattle.year.specs.Year.{goodFactors, goodLine, goodLines, isZeroLine, lineSlots, CheckYearGives};
 
 // A line's kind, currency and amount are in range.
 pub fn good_line(l: Line) -> bool
@@ -96,10 +95,10 @@ fn good_lines(lines: [Line; Year::LINES], count: usize) -> bool
 fn good_factors(number: u8, pppi: u32, rate: u32, aic: u16, pyc: u16, pyf: u16) -> bool
     ensures { λ r. ⌜ r ≡ goodFactors number pppi rate aic pyc pyf ⌝ }
 {
-    if number < YearMinutes::FIRST_YEAR {
+    if number < Year::FIRST {
         return false;
     }
-    if YearMinutes::LAST_YEAR < number {
+    if Year::LAST < number {
         return false;
     }
     if pppi < Year::LEAST_PPPI {
@@ -125,13 +124,13 @@ fn good_factors(number: u8, pppi: u32, rate: u32, aic: u16, pyc: u16, pyf: u16) 
 
 // Whether the year is in range. Its log is neither used nor checked.
 pub fn check_year(y: Year) -> Answer
-    ensures { λ r. ⌜ CheckGives y r ⌝ }
+    ensures { λ r. ⌜ CheckYearGives y r ⌝ }
 {
     if !good_factors(y.number, y.pppi, y.rate, y.aic, y.pyc, y.pyf) {
         return Answer::Refused(Refusal::BadYear);
     }
-    let paid = y.within;
-    if !within(paid, Year::MOST_WITHIN) {
+    let paid = y.wpa;
+    if !within(paid, Year::MOST_WPA) {
         return Answer::Refused(Refusal::BadYear);
     }
     let lines = y.lines;

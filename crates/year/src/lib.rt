@@ -58,11 +58,16 @@ pub struct Year {
     // an Exceptional Event is marked
     pub exceptional: bool,
     // the within-period adjustment, W
-    pub within: i64,
+    pub wpa: i64,
     pub log: Log,
 }
 
 impl Year {
+    // The numbers of the first and the last Relevant Year.
+    pub const FIRST: u8 = calendar::FIRST_YEAR;
+
+    pub const LAST: u8 = calendar::LAST_YEAR;
+
     pub const LINES: usize = 64;
 
     pub const LEAST_PPPI: u32 = 5_000;
@@ -78,7 +83,7 @@ impl Year {
     pub const MOST_PARTIAL: u16 = 10_000;
 
     // The most that the within-period adjustment has in magnitude.
-    pub const MOST_WITHIN: u64 = 1_000_000_000;
+    pub const MOST_WPA: u64 = 1_000_000_000;
 
     // The fresh year: year 1, index and factors 1, rate 1, no line, no mark, no adjustment, an empty log.
     pub fn fresh() -> Year
@@ -96,7 +101,7 @@ impl Year {
             lines: [Line::zero(); Year::LINES],
             line_count: 0,
             exceptional: false,
-            within: 0,
+            wpa: 0,
             log,
         }
     }

@@ -146,7 +146,7 @@ impl Generator {
             16 => Call::Read { k, bytes: self.any_bytes() },
             17 => Call::Write { k, room: self.some_room(k) },
             18 => Call::Refile { room: self.some_room(k), bytes: self.any_bytes() },
-            19 => Call::Sheet { bytes: self.any_bytes() },
+            19 => Call::Print { bytes: self.any_bytes() },
             20 => Call::SetSlot { slot: self.random.below(400) as u16, outage: self.any_outage() },
             21 => Call::SetCount { count: self.any_u64(), regime_end: self.any_u32() },
             22 => Call::SetBook { book: self.any_book() },

@@ -22,7 +22,7 @@ fn places(fields: &Fields, tag: u8) -> (usize, usize) {
 }
 
 impl Generator {
-    /// Returns read, written, filed again and put on sheets.
+    /// Returns read, written, filed again and printed.
     pub fn return_work(&mut self) {
         for _ in 0..6 {
             let bytes = self.some_return();
@@ -32,7 +32,7 @@ impl Generator {
             self.call(Call::Write { k, room });
             let room = self.some_room(k);
             self.call(Call::Refile { room, bytes: bytes.clone() });
-            self.call(Call::Sheet { bytes });
+            self.call(Call::Print { bytes });
             if self.random.one_in(3) {
                 self.change_and_write(k);
             }
@@ -58,7 +58,7 @@ impl Generator {
                     let room = self.random.pick(&[0, 22, 23, 24, 100, 6_077, 8_192]);
                     self.call(Call::Refile { room, bytes });
                 }
-                _ => self.call(Call::Sheet { bytes }),
+                _ => self.call(Call::Print { bytes }),
             }
         }
     }

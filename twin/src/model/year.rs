@@ -27,7 +27,7 @@ pub struct Year {
     pub mark: bool,
     /// The within-period adjustment.
     pub w: i64,
-    /// Serves reading, writing and the day sheet alone.
+    /// Serves reading, writing and printing alone.
     pub log: Log,
 }
 

@@ -6,10 +6,10 @@ use borrow.Author.Needs.{needs}
 use borrow.Author.Tests.{not-true, not-false}
 use lib.ListN.{length, getD, take, drop}
 use Rattle.lists.specs.Lists.{all}
-use Rattle.lists.proofs.Tests.{held}
+use Rattle.lists.proofs.Tests.{unmapped-length}
 use Rattle.money.proofs.Pounds.{wire}
 use Rattle.year.specs.declared.Year.{Year}
-use Rattle.year.specs.Year.{goodYearRecord}
+use Rattle.year.specs.Year.{goodYear}
 use Rattle.balances.specs.Balance.{periodYears}
 use Rattle.balances.specs.declared.assessing.Yearly.{Yearly}
 use Rattle.assessment.specs.Period.{yearFits, yearlyOf}
@@ -33,7 +33,7 @@ abbrev μ-loop : tie.MeasureT-loop
 μ-loop book log n years yearly₀ k₀ yearly k = n - k
 
 len : (c : tie.Start Inv-loop μ-loop) → length (c .args .t2) ≡ periodYears
-len c = search (needs, held)
+len c = search (needs, unmapped-length)
 
 fits : (c : tie.Start Inv-loop μ-loop) → c .args .n ≤ length (c .args .t2)
 fits c = omega (arith, len c, c .pre .0)
@@ -51,9 +51,9 @@ row c =
     let i = p .before .before .before in
     let a = i .before in
     let s = a .before .before in
-    let good = first-at noYear (s .args .t2) (s .args .n) (fits s) goodYearRecord (s .pre .3) (a .loop .k) (i .loop-test .taken) in
+    let good = first-at noYear (s .args .t2) (s .args .n) (fits s) goodYear (s .pre .3) (a .loop .k) (i .loop-test .taken) in
     c .row-of .ensures
-    ∙ ap (rowFrom (p .before .levels-of .result) (p .revenue-of .result) (this a .pppi)) (wire (this a .within) (c .before .struct-told .given .1 .1 .1 .1 .1 .1 .1 .1 .1 .0 .1))
+    ∙ ap (rowFrom (p .before .levels-of .result) (p .revenue-of .result) (this a .pppi)) (wire (this a .wpa) (c .before .struct-told .given .1 .1 .1 .1 .1 .1 .1 .1 .1 .0 .1))
     ∙ row-is (s .args .book) (this a) (s .args .log) (s .pre .1) (s .pre .2) good (p .before .levels-of .result) (p .revenue-of .result) (p .before .levels-of .ensures) (p .revenue-of .ensures)
 
 returns : tie.Need-returns Inv-loop μ-loop

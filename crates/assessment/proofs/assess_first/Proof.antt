@@ -5,13 +5,13 @@ use Prim.Native.Nat.{_≤_}
 use native.Mathlib.Omega.{arith}
 use lib.ListN.{length, take}
 use Rattle.lists.specs.Lists.{all}
-use Rattle.lists.proofs.Tests.{held}
+use Rattle.lists.proofs.Tests.{unmapped-length}
 use Rattle.balances.specs.Balance.{periodYears}
 use Rattle.balances.proofs.Ranges.{CountSays, count-says}
 use Rattle.balances.specs.declared.assessing.Yearly.{Yearly}
 use Rattle.outage.specs.Log.{validLog}
 use Rattle.levels.specs.Book.{bookHolds}
-use Rattle.assessment.specs.Period.{yearFits, yearlyOf, yearsGood}
+use Rattle.assessment.specs.Period.{yearFits, yearlyOf, goodPeriodYears}
 use Rattle.assessment.specs.Steps.{noAmounts}
 use Rattle.assessment.proofs.Period.{book-told, gives-assessed, gives-bad-years, gives-no-availability, gives-too-large, good-records, log-told}
 use borrow.Author.Needs.{needs}
@@ -20,7 +20,7 @@ use Rattle.assessment.proofs.assess_first.Tie as tie
 use Rattle.assessment.proofs.assess_first.Reads as reads
 use Rattle.assessment.proofs.assess_first.Lts as lts
 use Rattle.assessment.proofs.amounts_of.Reads as amounts-of-reads
-use Rattle.assessment.proofs.good_years.Reads as good-years-reads
+use Rattle.assessment.proofs.good_period_years.Reads as good-period-years-reads
 use Rattle.balances.proofs.assess_years.Reads as assess-years-reads
 use Rattle.balances.specs.Assessment.{YearsGives}
 use Rattle.levels.proofs.availability_of.Reads as availability-of-reads
@@ -46,12 +46,12 @@ log-good c =
     log-told (a .book) (a .years) (a .log) (a .n) (s .availability-of .result) (c .enum-told .given .0 .0) (s .availability-of .ensures) (c .enum-told .given .1)
 
 -- the years were found those of one period
-years-good : (c : tie.Else1) → (let a = c .before .before .before .before .before .args in yearsGood (a .years) (a .n) ≡ true)
-years-good c = sym (c .before .good-years .ensures) ∙ not-false _ (c .if1 .left)
+years-good : (c : tie.Else1) → (let a = c .before .before .before .before .before .args in goodPeriodYears (a .years) (a .n) ≡ true)
+years-good c = sym (c .before .good-period-years .ensures) ∙ not-false _ (c .if1 .left)
 
 -- there is room for as many
 len : (c : tie.Start) → length (c .args .years) ≡ periodYears
-len c = search (needs, held)
+len c = search (needs, unmapped-length)
 
 says : (c : tie.Start) → CountSays (c .args .n)
 says c = count-says (c .args .n) (c .pre)
@@ -59,14 +59,14 @@ says c = count-says (c .args .n) (c .pre)
 fits : (c : tie.Start) → c .args .n ≤ length (c .args .years)
 fits c = omega (arith, len c, says c .room)
 
-good-years-requires : tie.Need-good-years-requires
-good-years-requires c κs = let k = says (c .before .before .before) in (k .some, k .room)
+good-period-years-requires : tie.Need-good-period-years-requires
+good-period-years-requires c κs = let k = says (c .before .before .before) in (k .some, k .room)
 
 returns-2 : tie.Need-returns-2
 returns-2 c =
     let k = c .before .before in
     let a = k .before .before .before .args in
-    gives-bad-years (a .book) (a .years) (a .log) (a .n) (book-good k) (log-good k) (sym (c .before .good-years .ensures) ∙ not-true _ (c .if1 .taken))
+    gives-bad-years (a .book) (a .years) (a .log) (a .n) (book-good k) (log-good k) (sym (c .before .good-period-years .ensures) ∙ not-true _ (c .if1 .taken))
 
 amounts-of-requires : tie.Need-amounts-of-requires
 amounts-of-requires c κs =
@@ -103,7 +103,7 @@ assess-first-spec =
     (λ c. search needs)
     returns
     (λ c. search needs)
-    good-years-requires
+    good-period-years-requires
     returns-2
     amounts-of-requires
     returns-3

@@ -5,10 +5,10 @@ use Prim.Native.Nat.{_≤_, _+_, _-_}
 use native.Mathlib.Omega.{arith}
 use borrow.Author.Needs.{needs}
 use lib.ListN.{length, getD, take}
-use Rattle.lists.proofs.Tests.{held}
+use Rattle.lists.proofs.Tests.{unmapped-length}
 use Rattle.lists.specs.Lists.{all}
 use Rattle.year.specs.declared.Year.{Year}
-use Rattle.year.specs.Year.{goodYearRecord}
+use Rattle.year.specs.Year.{goodYear}
 use Rattle.year.proofs.Says.{checked-good, checked-bad}
 use Rattle.balances.specs.Balance.{periodYears}
 use Rattle.assessment.specs.Period.{numbersFrom}
@@ -28,7 +28,7 @@ abbrev μ-loop : tie.MeasureT-loop
 μ-loop n number years k₀ k = n - k
 
 len : (c : tie.Start Inv-loop μ-loop) → length (c .args .t1) ≡ periodYears
-len c = search (needs, held)
+len c = search (needs, unmapped-length)
 
 fits : (c : tie.Start Inv-loop μ-loop) → c .args .n ≤ length (c .args .t1)
 fits c = omega (arith, len c, c .pre)
@@ -75,7 +75,7 @@ returns-3 c =
     let a = c .before in
     let s = a .before .args in
     let z = first-end noYear (s .t1) (s .n) (fits (a .before)) (a .loop .k) (omega arith) in
-    sym (a .loop .inv .1 ∙ ap (λ (l : List Year). all goodYearRecord l && numbersFrom (s .number + a .loop .k) l) z)
+    sym (a .loop .inv .1 ∙ ap (λ (l : List Year). all goodYear l && numbersFrom (s .number + a .loop .k) l) z)
 
 pub good-from-spec : {M : Type 1} → statement M
 good-from-spec =

@@ -16,7 +16,7 @@ returns-3 c =
       wire (f .found .given .0 .0) (e .before .before .known-told .given .0 .1),
       wire (f .found .given .0 .1 .0) (e .before .before .known-told .given .1 .0 .1),
       wire (e .assessed .given .0 .0) (c .known-told2 .given .0 .1),
-      wire (s .args .within) (s .fits .within .sfits),
+      wire (s .args .wpa) (s .fits .wpa .sfits),
     ))
 
 pub row-of-spec : {M : Type 1} → statement M

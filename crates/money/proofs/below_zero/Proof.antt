@@ -10,7 +10,7 @@ use Rattle.money.proofs.below_zero.Tie as tie
 returns : tie.Need-returns
 returns c =
     let k = c .before in
-    wire (c .turned .result) (c .turned .ok) ∙ c .turned .ensures ∙
+    wire (c .reflected .result) (c .reflected .ok) ∙ c .reflected .ensures ∙
     ap (λ (z : ℤ). negsuc 0 -ℤ z) (wire (k .credit .result) (k .credit .ok) ∙ k .credit .ensures) ∙
     turn-pos (k .before .args .n)
 

@@ -14,16 +14,16 @@ use Rattle.money.proofs.magnitude.Statement.{statement}
 use Rattle.money.proofs.magnitude.Tie as tie
 
 -- a number below zero
-module _ (c : tie.After-turned) where
+module _ (c : tie.After-reflected) where
   abbrev z : ℤ
   z = c .before .before .args .z
 
   neg : ltZ z (pos 0) ≡ true
   neg = rw (toZ-ofZ (c .before .before .fits .z)) at (c .before .if1 .taken)
 
-  back : toZ w64 (ofZ w64 (c .turned .result)) ≡ pos (mag z)
+  back : toZ w64 (ofZ w64 (c .reflected .result)) ≡ pos (mag z)
   back =
-      wire (c .turned .result) (c .turned .ok) ∙ c .turned .ensures ∙
+      wire (c .reflected .result) (c .reflected .ok) ∙ c .reflected .ensures ∙
       ap (λ (y : ℤ). negsuc 0 -ℤ y) (toZ-ofZ (c .before .before .fits .z)) ∙ turn-neg z neg
 
 cast-result : tie.Need-cast-result

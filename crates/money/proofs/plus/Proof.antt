@@ -7,8 +7,8 @@ use mathlib.Core.Bool.{true, false}
 use lib.IntN.{ℤ, pos, natAbs, _+ℤ_}
 use lib.Signed.{ltZ, mag}
 use mir.Facts.{toZ-ofZ}
-use Rattle.money.specs.Pounds.{heldZ}
-use Rattle.money.proofs.Pounds.{wire, held-wire}
+use Rattle.money.specs.Pounds.{saturated}
+use Rattle.money.proofs.Pounds.{wire, saturated-wire}
 use Rattle.money.proofs.Signs.{abs-fits, abs-of-neg, abs-of-pos, sum-neg, sum-pos, sum-fits, alike}
 use Rattle.money.proofs.plus.Statement.{statement}
 use Rattle.money.proofs.plus.Tie as tie
@@ -42,7 +42,7 @@ add-result c = let k = s (c .before) in simp (toZ-ofZ (k .fits .a), toZ-ofZ (k .
 returns : tie.Need-returns
 returns c =
     let k = c .before in
-    simp (toZ-ofZ (s k .fits .a), toZ-ofZ (s k .fits .b)) (held-wire (a k +ℤ b k) (fits c))
+    simp (toZ-ofZ (s k .fits .a), toZ-ofZ (s k .fits .b)) (saturated-wire (a k +ℤ b k) (fits c))
 
 -- ---- both or none
 module _ (c : tie.After-magnitude2) where
@@ -81,7 +81,7 @@ returns-2 : tie.Need-returns-2
 returns-2 c =
     let k = c .before in
     wire (c .below-zero .result) (c .below-zero .ok) ∙ c .below-zero .ensures ∙
-    ap heldZ (sum-neg (a (bad k)) (b (bad k)) (a-abs (k .before)) (b-abs (k .before)) (a-neg k) (b-neg k))
+    ap saturated (sum-neg (a (bad k)) (b (bad k)) (a-abs (k .before)) (b-abs (k .before)) (a-neg k) (b-neg k))
 
 -- ---- none below zero
 module _ (c : tie.Else2) where
@@ -100,7 +100,7 @@ returns-3 : tie.Need-returns-3
 returns-3 c =
     let k = c .before in
     wire (c .credit .result) (c .credit .ok) ∙ c .credit .ensures ∙
-    ap heldZ (sum-pos (a (good k)) (b (good k)) (a-abs (k .before)) (b-abs (k .before)) (a-pos k) (sym (same (k .before)) ∙ a-pos k))
+    ap saturated (sum-pos (a (good k)) (b (good k)) (a-abs (k .before)) (b-abs (k .before)) (a-pos k) (sym (same (k .before)) ∙ a-pos k))
 
 pub plus-spec : {M : Type 1} → statement M
 plus-spec =

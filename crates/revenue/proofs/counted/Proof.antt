@@ -6,7 +6,7 @@ use lib.IntN.{ℤ, negℤ, natAbs, +ℤ-idl}
 use mir.Syntax.{w64}
 use mir.Val.{toZ, ofZ}
 use mir.ValLaws.{toZ-ofZ}
-use Rattle.money.proofs.Pounds.{wire, abs-neg, held-small}
+use Rattle.money.proofs.Pounds.{wire, abs-neg, saturated-small}
 use Rattle.revenue.proofs.Sums.{capacity-in, capacity-out, other-out, revenue-in, additional-in, cost-in}
 use Rattle.revenue.proofs.counted.Statement.{statement}
 use Rattle.revenue.proofs.counted.Tie as tie
@@ -16,13 +16,13 @@ read : (c : tie.Start) → toZ w64 (ofZ w64 (c .args .amount)) ≡ c .args .amou
 read c = toZ-ofZ w64 (c .args .amount) (c .fits .amount)
 
 -- the pounds turned round
-turned : (c : tie.After-minus) → toZ w64 (ofZ w64 (c .minus .result)) ≡ negℤ (c .before .before .before .before .before .args .amount)
-turned c =
+negated : (c : tie.After-minus) → toZ w64 (ofZ w64 (c .minus .result)) ≡ negℤ (c .before .before .before .before .before .args .amount)
+negated c =
     let s = c .before .before .before .before .before in
     let p = s .args .amount in
     wire (c .minus .result) (c .minus .ok)
     ∙ rw (read s, +ℤ-idl (negℤ p)) at (c .minus .ensures)
-    ∙ held-small (negℤ p) (omega (arith, abs-neg p, s .pre))
+    ∙ saturated-small (negℤ p) (omega (arith, abs-neg p, s .pre))
 
 -- what is returned counts p, and is as small as p
 counts : {z p q : ℤ} → z ≡ p → natAbs p ≤ 2000000000 → p ≡ q → (z ≡ q) × (natAbs z ≤ 2000000000)
@@ -61,7 +61,7 @@ returns-6 : tie.Need-returns-6
 returns-6 c =
     let s = c .before .before .before .before .before in
     let a = s .args in
-    counts (turned c) (omega (arith, abs-neg (a .amount), s .pre))
+    counts (negated c) (omega (arith, abs-neg (a .amount), s .pre))
     (cost-in (a .cmr) (a .kind) (a .amount) (c .before .before .before .before .if1 .left) (c .before .before .before .if3 .left) (c .before .before .if4 .left) (c .before .if5 .left))
 
 pub counted-spec : {M : Type 1} → statement M

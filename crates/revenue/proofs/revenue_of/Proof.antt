@@ -8,7 +8,7 @@ use mir.Syntax.{w64}
 use mir.Val.{toZ, ofZ}
 use Rattle.money.proofs.Pounds.{wire}
 use Rattle.refusals.specs.Refusals.{answerNumber}
-use Rattle.year.specs.Year.{goodYearRecord}
+use Rattle.year.specs.Year.{goodYear}
 use Rattle.year.proofs.Says.{year-says, checked-good}
 use Rattle.revenue.specs.Revenue.{assessedRevenue}
 use Rattle.revenue.proofs.Answers.{gives-bad, gives-large, gives-pounds}
@@ -16,7 +16,7 @@ use Rattle.revenue.proofs.revenue_of.Statement.{statement}
 use Rattle.revenue.proofs.revenue_of.Tie as tie
 
 -- the year is good
-good : (c : tie.After-enum-told) → goodYearRecord (c .before .before .before .args .y) ≡ true
+good : (c : tie.After-enum-told) → goodYear (c .before .before .before .args .y) ≡ true
 good c =
     let k = c .before .before in
     checked-good (k .before .args .y) (k .check-year .result) (k .check-year .ensures) (c .enum-told .given .1)

@@ -6,7 +6,7 @@ use borrow.Author.Needs.{needs}
 use lib.ListN.{length, getD}
 use mir.Syntax.{w64}
 use mir.Val.{toZ, ofZ}
-use Rattle.lists.proofs.Tests.{held}
+use Rattle.lists.proofs.Tests.{unmapped-length}
 use Rattle.money.proofs.Pounds.{wire}
 use Rattle.year.specs.Year.{zeroLine}
 use Rattle.year.proofs.Says.{LinesSay, lines-say, rate-most}
@@ -24,7 +24,7 @@ abbrev μ-loop : tie.MeasureT-loop
 μ-loop count rate lines others₀ cmr₀ k₀ others cmr k = count - k
 
 len : (c : tie.Start Inv-loop μ-loop) → length (c .args .t1) ≡ 64
-len c = search (needs, held)
+len c = search (needs, unmapped-length)
 
 said : (c : tie.Start Inv-loop μ-loop) → LinesSay (c .args .t1) (c .args .count)
 said c = lines-say (c .args .t1) (c .args .count) (c .pre .0)

@@ -10,7 +10,7 @@ use lib.IntN.{pos}
 use Rattle.lists.proofs.Tests.{not-no, not-yes}
 use Rattle.money.proofs.Pounds.{wire}
 use Rattle.money.proofs.within.Reads as within-reads
-use Rattle.balances.specs.Balance.{goodIndex, goodAmount}
+use Rattle.balances.specs.Balance.{goodIndex, goodYearlyAmount}
 use Rattle.balances.proofs.Ranges.{good-none, bad-index, bad-amount, good-on}
 use Rattle.balances.proofs.assessing.good_index.Reads as good-index-reads
 use Rattle.balances.proofs.assessing.good_amounts.Reads as good-amounts
@@ -52,7 +52,7 @@ good-here : (t : ℕ) (c : good-amounts-lts.Else2 (told t) (good-amounts-at t) g
 good-here t c = index-is t (c .before) ∙ not-no (c .before .good-index .result) (c .if2 .left)
 
 amount-is : (t : ℕ) (c : good-amounts-lts.After-within (told t) (good-amounts-at t) good-amounts.Post)
-    → goodAmount (getD (c .before .before .before .before .before .args .t2) (c .before .before .before .before .before .args .n - 1) (pos 0)) ≡ c .within .result
+    → goodYearlyAmount (getD (c .before .before .before .before .before .args .t2) (c .before .before .before .before .before .args .n - 1) (pos 0)) ≡ c .within .result
 amount-is t c = sym (rw (wire _ (c .before .before .before .amount .given)) at (c .within .ensures))
 
 good-amounts-returns-2 : (t : ℕ) → good-amounts-lts.Need-returns-2 (told t) (good-amounts-at t) good-amounts.Post

@@ -8,18 +8,18 @@ use lib.IntN.{ℤ}
 use Rattle.balances.specs.declared.carrying.Balance.{Balance}
 use Rattle.balances.specs.Balance.{goodAmounts}
 use Rattle.balances.specs.Steps.{balanceOf, Bounded}
-use Rattle.balances.specs.Assessment.{goodYearly}
+use Rattle.balances.specs.Assessment.{assessable}
 use Rattle.balances.proofs.Ranges.{CountSays, YearlySays, yearly-says}
 use Rattle.balances.proofs.Answers.{balance-bounded, found-is}
 use Rattle.balances.proofs.assessing.assess_years.Statement.{statement}
 use Rattle.balances.proofs.assessing.assess_years.Tie as tie
 
 -- what the test of the years showed
-bad : (c : tie.Then1) → goodYearly (c .before .before .args .y) (c .before .before .args .n) ≡ false
-bad c = sym (c .before .good-yearly .ensures) ∙ not-true _ (c .if1 .taken)
+bad : (c : tie.Then1) → assessable (c .before .before .args .y) (c .before .before .args .n) ≡ false
+bad c = sym (c .before .can-be-assessed .ensures) ∙ not-true _ (c .if1 .taken)
 
-good : (c : tie.Else1) → goodYearly (c .before .before .args .y) (c .before .before .args .n) ≡ true
-good c = sym (c .before .good-yearly .ensures) ∙ not-false _ (c .if1 .left)
+good : (c : tie.Else1) → assessable (c .before .before .args .y) (c .before .before .args .n) ≡ true
+good c = sym (c .before .can-be-assessed .ensures) ∙ not-false _ (c .if1 .left)
 
 says : (c : tie.After-paid) → (let a = c .before .before .before .before .before .before .before .args in YearlySays (a .y) (a .n))
 says c = let e = c .before .before .before .before .before in yearly-says (e .before .before .args .y) (e .before .before .args .n) (good e)
@@ -37,7 +37,7 @@ balance-of-requires-3 : tie.Need-balance-of-requires-3
 balance-of-requires-3 c κs = let s = says (c .before .before) in (s .count .some, s .count .room, s .floor)
 
 balance-of-requires-4 : tie.Need-balance-of-requires-4
-balance-of-requires-4 c κs = let s = says (c .before .before .before) in (s .count .some, s .count .room, s .within)
+balance-of-requires-4 c κs = let s = says (c .before .before .before) in (s .count .some, s .count .room, s .wpa)
 
 bounded : (index : List ℕ) (amounts : List ℤ) (n : ℕ) (b : Balance) → CountSays n → goodAmounts index amounts n ≡ true → b ≡ balanceOf index amounts n → Bounded b
 bounded index amounts n b k g e = subst Bounded (sym e) (balance-bounded index amounts n (k .some) g)
@@ -51,7 +51,7 @@ found-requires c κs =
       bounded (y .index) (y .revenue) (a .n) (c .before .before .before .balance-of .result) (s .count) (s .revenue) (c .before .before .before .balance-of .ensures),
       bounded (y .index) (y .cap) (a .n) (c .before .before .balance-of2 .result) (s .count) (s .cap) (c .before .before .balance-of2 .ensures),
       bounded (y .index) (y .floor) (a .n) (c .before .balance-of3 .result) (s .count) (s .floor) (c .before .balance-of3 .ensures),
-      bounded (y .index) (y .within) (a .n) (c .balance-of4 .result) (s .count) (s .within) (c .balance-of4 .ensures),
+      bounded (y .index) (y .wpa) (a .n) (c .balance-of4 .result) (s .count) (s .wpa) (c .balance-of4 .ensures),
     )
 
 returns-2 : tie.Need-returns-2

@@ -4,8 +4,8 @@ use native.Mathlib.Omega.{arith}
 use borrow.Author.Needs.{needs}
 use lib.IntN.{natAbs, _-ℤ_}
 use mir.Facts.{toZ-ofZ}
-use Rattle.money.specs.Pounds.{heldZ}
-use Rattle.money.proofs.Pounds.{wire, abs-sub, held-small}
+use Rattle.money.specs.Pounds.{saturated}
+use Rattle.money.proofs.Pounds.{wire, abs-sub, saturated-small}
 use Rattle.balances.specs.Balance.{mostBalance}
 use Rattle.balances.specs.Assessment.{heldBetween}
 use Rattle.balances.proofs.Answers.{same-less, between-small}
@@ -27,8 +27,8 @@ less-is c =
     let t = c .before .held-between .result in
     let a = c .before .before .args .revenue in
     c .minus .ensures
-    ∙ ap heldZ (same-less (wire t (c .before .held-between .ok)) (toZ-ofZ (c .before .before .fits .revenue)))
-    ∙ held-small (t -ℤ a) (omega (arith, held-most (c .before), abs-sub t a))
+    ∙ ap saturated (same-less (wire t (c .before .held-between .ok)) (toZ-ofZ (c .before .before .fits .revenue)))
+    ∙ saturated-small (t -ℤ a) (omega (arith, held-most (c .before), abs-sub t a))
 
 -- T - A - W
 netted-is : (c : tie.After-minus2) → c .minus2 .result ≡ c .before .minus .result -ℤ c .before .before .before .args .paid
@@ -38,8 +38,8 @@ netted-is c =
     let d = c .before .minus .result in
     let w = c .before .before .before .args .paid in
     c .minus2 .ensures
-    ∙ ap heldZ (same-less (wire d (c .before .minus .ok)) (toZ-ofZ (c .before .before .before .fits .paid)))
-    ∙ held-small (d -ℤ w) (rw (less-is (c .before)) (omega (arith, held-most (c .before .before), abs-sub t a, abs-sub (t -ℤ a) w)))
+    ∙ ap saturated (same-less (wire d (c .before .minus .ok)) (toZ-ofZ (c .before .before .before .fits .paid)))
+    ∙ saturated-small (d -ℤ w) (rw (less-is (c .before)) (omega (arith, held-most (c .before .before), abs-sub t a, abs-sub (t -ℤ a) w)))
 
 returns : tie.Need-returns
 returns c =

@@ -30,7 +30,7 @@ returns-3 c =
     rw (passed (p .before .good-amounts .ensures) (p .if1 .left), passed (q .before .good-amounts2 .ensures) (q .if2 .left), failed (c .before .not-negative .ensures) (c .if3 .taken))
 
 -- revenue and cap are good
-half : (c : tie.Else3) → let y = c .before .before .before .before .before .before .before .before .before .before .before .args in goodRows (y .y) (y .n) ≡ goodAmounts (y .y .index) (y .y .floor) (y .n) && (notNegative (y .y .floor) (y .n) && goodAmounts (y .y .index) (y .y .within) (y .n))
+half : (c : tie.Else3) → let y = c .before .before .before .before .before .before .before .before .before .before .before .args in goodRows (y .y) (y .n) ≡ goodAmounts (y .y .index) (y .y .floor) (y .n) && (notNegative (y .y .floor) (y .n) && goodAmounts (y .y .index) (y .y .wpa) (y .n))
 half c =
     let q = c .before .before in
     let p = q .before .before in

@@ -9,7 +9,7 @@ use lib.Dec.{leb}
 use lib.ListN.{getD}
 use lib.IntN.{ℤ, pos, natAbs, _+ℤ_}
 use mir.Facts.{toZ-ofZ}
-use Rattle.money.proofs.Pounds.{wire, abs-add, held-small}
+use Rattle.money.proofs.Pounds.{wire, abs-add, saturated-small}
 use Rattle.money.proofs.plus.Reads as plus-reads
 use Rattle.money.proofs.within.Reads as within-reads
 use Rattle.balances.specs.declared.carrying.Balance.the-variants.{Is}
@@ -95,7 +95,7 @@ next-is t c =
     let x = getD (a .t2) (a .at + 1) (pos 0) in
     let small = amount-small (a .index) (a .t2) (a .at + a .left + 1) (b .before .before .pre .1 .1) (a .at + 1) (next-year t (b .before) .0) in
     (rw (wire (b .brought-on .result) (b .brought-on .ok), wire x (c .before .amount .given)) at (c .plus .ensures))
-    ∙ held-small (b .brought-on .result +ℤ x) (omega (arith, abs-add (b .brought-on .result) x, b .brought-on .ensures .1))
+    ∙ saturated-small (b .brought-on .result +ℤ x) (omega (arith, abs-add (b .brought-on .result) x, b .brought-on .ensures .1))
     ∙ ap (λ (z : ℤ). z +ℤ x) (brought-is t b)
     ∙ sym (after-next (a .index) (a .t2) (a .at))
 

@@ -6,7 +6,7 @@ use borrow.Author.Needs.{needs}
 use borrow.Author.Tests.{not-true, not-false}
 use denote.Enum.Declared.{tagOf}
 use Rattle.money.proofs.Pounds.{wire}
-use Rattle.year.specs.Year.{goodYearRecord}
+use Rattle.year.specs.Year.{goodYear}
 use Rattle.levels.specs.declared.measuring.Target.{Target}
 use Rattle.levels.specs.declared.measuring.Target.the-variants.{Met, Missed, Refused}
 use Rattle.levels.specs.Availability.{targetNumber, targetMet, TargetGives}
@@ -41,7 +41,7 @@ not-refused (Refused why) (inr e) = absurd (omega arith)
 told : (c : tie.At-match-keys2) → (let a = start (c .before) .args in Told (a .book) (a .y) (a .log) (c .before .tested .result))
 told c = record { gives = target (c .before); clear = not-refused (c .before .tested .result) (c .match .keys2) }
 
-in-range : (c : tie.After-enum-told) → goodYearRecord (start (c .before .before .before .before) .args .y) ≡ true
+in-range : (c : tie.After-enum-told) → goodYear (start (c .before .before .before .before) .args .y) ≡ true
 in-range c =
     let k = c .before .before in
     checked-good (start (k .before .before) .args .y) (k .check-year .result) (k .check-year .ensures) (c .enum-told .given .1)

@@ -7,27 +7,27 @@ use lib.Signed.{nonNeg}
 use mir.Facts.{toZ-ofZ}
 use Rattle.lists.proofs.Tests.{and-right}
 use Rattle.money.proofs.Pounds.{wire}
-use Rattle.levels.specs.Book.{small}
+use Rattle.levels.specs.Book.{goodBookAmount}
 use Rattle.levels.proofs.measuring.good_sum.Statement.{statement}
 use Rattle.levels.proofs.measuring.good_sum.Tie as tie
 
 -- ---- what each test showed
-levelled : (c : tie.After-good-level) → (nonNeg (c .before .args .preliminary) && small (c .before .args .preliminary)) ≡ c .good-level .result
+levelled : (c : tie.After-good-level) → (nonNeg (c .before .args .preliminary) && goodBookAmount (c .before .args .preliminary)) ≡ c .good-level .result
 levelled c = sym (rw (toZ-ofZ (c .before .fits .preliminary)) at (c .good-level .ensures))
 
-level-good : (c : tie.Else1) → (nonNeg (c .before .before .args .preliminary) && small (c .before .before .args .preliminary)) ≡ true
+level-good : (c : tie.Else1) → (nonNeg (c .before .before .args .preliminary) && goodBookAmount (c .before .before .args .preliminary)) ≡ true
 level-good c = levelled (c .before) ∙ not-false _ (c .if1 .left)
 
-built : (c : tie.After-within) → small (c .before .before .before .args .construction) ≡ c .within .result
+built : (c : tie.After-within) → goodBookAmount (c .before .before .before .args .construction) ≡ c .within .result
 built c = sym (rw (toZ-ofZ (c .before .before .before .fits .construction)) at (c .within .ensures))
 
-built-good : (c : tie.Else2) → small (c .before .before .before .before .args .construction) ≡ true
+built-good : (c : tie.Else2) → goodBookAmount (c .before .before .before .before .args .construction) ≡ true
 built-good c = built (c .before) ∙ not-false _ (c .if2 .left)
 
-run : (c : tie.After-within2) → small (c .before .before .before .before .before .args .opex) ≡ c .within2 .result
+run : (c : tie.After-within2) → goodBookAmount (c .before .before .before .before .before .args .opex) ≡ c .within2 .result
 run c = sym (rw (toZ-ofZ (c .before .before .before .before .before .fits .opex)) at (c .within2 .ensures))
 
-run-good : (c : tie.Else3) → small (c .before .before .before .before .before .before .args .opex) ≡ true
+run-good : (c : tie.Else3) → goodBookAmount (c .before .before .before .before .before .before .args .opex) ≡ true
 run-good c = run (c .before) ∙ not-false _ (c .if3 .left)
 
 -- ---- the needs
@@ -46,7 +46,7 @@ sum-of-requires c κs =
     let s = c .before .before .before .before .before .before in
     let p = s .args .preliminary in
     rw (toZ-ofZ (s .fits .preliminary), toZ-ofZ (s .fits .construction), toZ-ofZ (s .fits .opex))
-    (leb-true (natAbs p) 1000000000 (and-right (nonNeg p) (small p) (level-good (c .before .before .before .before))), leb-true (natAbs (s .args .construction)) 1000000000 (built-good (c .before .before)), leb-true (natAbs (s .args .opex)) 1000000000 (run-good c))
+    (leb-true (natAbs p) 1000000000 (and-right (nonNeg p) (goodBookAmount p) (level-good (c .before .before .before .before))), leb-true (natAbs (s .args .construction)) 1000000000 (built-good (c .before .before)), leb-true (natAbs (s .args .opex)) 1000000000 (run-good c))
 
 returns-4 : tie.Need-returns-4
 returns-4 c =

@@ -8,8 +8,8 @@ use Rattle.levels.proofs.measuring.measured.Statement.{statement}
 use Rattle.levels.proofs.measuring.measured.Tie as tie
 
 -- ---- what each call showed
-held : (c : tie.Else1) → bookHolds (c .before .before .args .book) (c .before .before .args .regime-end) ≡ true
-held c = sym (c .before .book-holds .ensures) ∙ not-false _ (c .if1 .left)
+book-good : (c : tie.Else1) → bookHolds (c .before .before .args .book) (c .before .before .args .regime-end) ≡ true
+book-good c = sym (c .before .book-holds .ensures) ∙ not-false _ (c .if1 .left)
 
 within : (c : tie.After-known-told) → (let e = c .before .before .before in (e .before .first-minute .result ≤ e .end-minute .result) × (c .before .lost .given .0 .0 ≤ 1000 * (e .end-minute .result - e .before .first-minute .result)))
 within c =
@@ -21,12 +21,12 @@ returns : tie.Need-returns
 returns c = rw (sym (c .before .book-holds .ensures) ∙ not-true _ (c .if1 .taken))
 
 returns-2 : tie.Need-returns-2
-returns-2 c = rw (held (c .before .before .before .before), c .enum-told .given .1)
+returns-2 c = rw (book-good (c .before .before .before .before), c .enum-told .given .1)
 
 returns-3 : tie.Need-returns-3
 returns-3 c =
     let k = c .before .before .before in
-    rw (held (k .before .before .before .before .before), k .before .lost .given .1, c .before .minutes .given .1)
+    rw (book-good (k .before .before .before .before .before), k .before .lost .given .1, c .before .minutes .given .1)
 
 sub-figure : tie.Need-sub-figure
 sub-figure c = within (c .before .before) .0
@@ -38,7 +38,7 @@ returns-4 : tie.Need-returns-4
 returns-4 c =
     let k = c .before .before in
     let e = k .before .before .before in
-    simp (e .before .first-minute .ensures, e .end-minute .ensures, held (e .before .before), k .before .lost .given .1, c .enum-told2 .given .1)
+    simp (e .before .first-minute .ensures, e .end-minute .ensures, book-good (e .before .before), k .before .lost .given .1, c .enum-told2 .given .1)
 
 pub measured-spec : {M : Type 1} → statement M
 measured-spec =

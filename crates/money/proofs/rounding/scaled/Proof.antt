@@ -10,7 +10,7 @@ use lib.IntN.{pos, negℤ, natAbs}
 use lib.Signed.{ltZ}
 use mir.Facts.{toZ-ofZ}
 use Rattle.lists.proofs.Tests.{not-no, not-yes}
-use Rattle.money.specs.Pounds.{heldZ}
+use Rattle.money.specs.Pounds.{saturated}
 use Rattle.money.specs.Rounding.{roundDiv, onMagnitude, scaledOf}
 use Rattle.money.proofs.Pounds.{wire}
 use Rattle.money.proofs.Nearest.{round-le-self, round-times, debit-on, credit-on, rounded-is, scaled-is, scaled-far, scaled-wide, scaled-over-none}
@@ -90,7 +90,7 @@ returns-4 : tie.Need-returns-4
 returns-4 c =
     let k = c .before .before in
     let m = k .before in
-    wire (c .debit .result) (c .debit .ok) ∙ c .debit .ensures ∙ ap (λ (x : ℕ). heldZ (negℤ (pos x))) (figure m) ∙
+    wire (c .debit .result) (c .debit .ok) ∙ c .debit .ensures ∙ ap (λ (x : ℕ). saturated (negℤ (pos x))) (figure m) ∙
     debit-on (f m) (s m .args .z) (small m) (sym (sign k) ∙ c .before .if4 .taken) ∙
     given m
 
@@ -98,7 +98,7 @@ returns-5 : tie.Need-returns-5
 returns-5 c =
     let k = c .before .before in
     let m = k .before in
-    wire (c .credit .result) (c .credit .ok) ∙ c .credit .ensures ∙ ap (λ (x : ℕ). heldZ (pos x)) (figure m) ∙
+    wire (c .credit .result) (c .credit .ok) ∙ c .credit .ensures ∙ ap (λ (x : ℕ). saturated (pos x)) (figure m) ∙
     credit-on (f m) (s m .args .z) (small m) (sym (sign k) ∙ c .before .if4 .left) ∙
     given m
 

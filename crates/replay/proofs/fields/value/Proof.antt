@@ -19,7 +19,7 @@ returns : tie.Need-returns
 returns c =
     let r = c .before .before .read-full in
     let h = c .before .before .before .before in
-    front (r .result) (r .last .1 .0) (drop (h .held .result) (h .before .before .before .args .space .now)) (r .ensures .0)
+    front (r .result) (r .last .1 .0) (drop (h .clipped .result) (h .before .before .before .args .space .now)) (r .ensures .0)
 
 pub value-spec : {M : Type 1} → statement M
 value-spec =

@@ -7,7 +7,7 @@ use lib.IntN.{pos, negℤ, natAbs}
 use lib.Signed.{ltZ}
 use mir.Facts.{toZ-ofZ}
 use borrow.Author.Needs.{needs}
-use Rattle.money.specs.Pounds.{heldZ}
+use Rattle.money.specs.Pounds.{saturated}
 use Rattle.money.proofs.Pounds.{wire}
 use Rattle.settlement.specs.Growth.{growthOf}
 use Rattle.settlement.proofs.Amounts.{product, paid-fits, debit-is, credit-is}
@@ -36,7 +36,7 @@ returns c =
     let negative : ltZ z (pos 0) ≡ true = cc (toZ-ofZ (start .fits .amount)) in
     wire (c .debit .result) (c .debit .ok)
     ∙ c .debit .ensures
-    ∙ ap (λ (m : ℕ). heldZ (negℤ (pos m))) (cut-is (c .before .before .before))
+    ∙ ap (λ (m : ℕ). saturated (negℤ (pos m))) (cut-is (c .before .before .before))
     ∙ debit-is z n (paid-fits z n (start .pre .0) (start .pre .1)) negative
 
 returns-2 : tie.Need-returns-2
@@ -47,7 +47,7 @@ returns-2 c =
     let not-negative : ltZ z (pos 0) ≡ false = cc (toZ-ofZ (start .fits .amount)) in
     wire (c .credit .result) (c .credit .ok)
     ∙ c .credit .ensures
-    ∙ ap (λ (m : ℕ). heldZ (pos m)) (cut-is (c .before .before .before))
+    ∙ ap (λ (m : ℕ). saturated (pos m)) (cut-is (c .before .before .before))
     ∙ credit-is z n (paid-fits z n (start .pre .0) (start .pre .1)) not-negative
 
 pub grown-spec : {M : Type 1} → statement M

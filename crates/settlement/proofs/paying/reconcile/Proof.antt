@@ -5,16 +5,16 @@ use mir.Facts.{toZ-ofZ}
 use mir.Syntax.{w64}
 use mir.Val.{toZ, ofZ}
 use borrow.Author.Needs.{needs}
-use Rattle.refusals.specs.Refusals.{lowest}
-use Rattle.money.specs.Pounds.{heldZ}
+use Rattle.refusals.specs.Refusals.{firstApplicable}
+use Rattle.money.specs.Pounds.{saturated}
 use Rattle.money.proofs.Pounds.{wire}
 use Rattle.settlement.specs.Calls.{settleRows, settleGiven}
-use Rattle.settlement.proofs.Amounts.{held-rows, held-given}
+use Rattle.settlement.proofs.Amounts.{saturated-rows, saturated-given}
 use Rattle.settlement.proofs.paying.reconcile.Statement.{statement}
 use Rattle.settlement.proofs.paying.reconcile.Tie as tie
 
 -- the amount that is settled: the exact difference, held to what fits
-difference : (c : tie.After-minus) → toZ w64 (ofZ w64 (c .minus .result)) ≡ heldZ (c .before .args .last -ℤ c .before .args .provisional)
+difference : (c : tie.After-minus) → toZ w64 (ofZ w64 (c .minus .result)) ≡ saturated (c .before .args .last -ℤ c .before .args .provisional)
 difference c =
     wire (c .minus .result) (c .minus .ok)
     ∙ c .minus .ensures
@@ -26,8 +26,8 @@ returns c =
     let s = start .args .settled in
     let r = start .args .reconciled in
     let z = start .args .last -ℤ start .args .provisional in (
-      c .settle .ensures .0 ∙ ap (λ (x : ℤ). lowest (settleRows x s r)) (difference (c .before)) ∙ held-rows z s r,
-      c .settle .ensures .1 ∙ ap (λ (x : ℤ). settleGiven x s r) (difference (c .before)) ∙ held-given z s r,
+      c .settle .ensures .0 ∙ ap (λ (x : ℤ). firstApplicable (settleRows x s r)) (difference (c .before)) ∙ saturated-rows z s r,
+      c .settle .ensures .1 ∙ ap (λ (x : ℤ). settleGiven x s r) (difference (c .before)) ∙ saturated-given z s r,
     )
 
 pub reconcile-spec : {M : Type 1} → statement M

@@ -3,7 +3,7 @@ use mathlib.Core.Path.{refl, ap, _∙_}
 use lib.IntN.{ℤ}
 use mir.Facts.{toZ-ofZ}
 use borrow.Author.Needs.{needs}
-use Rattle.refusals.specs.Refusals.{lowest}
+use Rattle.refusals.specs.Refusals.{firstApplicable}
 use Rattle.settlement.specs.Calls.{payRows, payGiven}
 use Rattle.settlement.proofs.Amounts.{Told, gap-told, gap-refused, settle-as-pay}
 use Rattle.settlement.proofs.paying.settle.Statement.{statement}
@@ -22,7 +22,7 @@ returns c =
     let z = start .args .adjustment in
     let n = c .before .before .apart .given .0 .0 in
     let same = settle-as-pay z (start .args .measured) (start .args .settled) n (told (c .before .before)) in (
-      c .pay .ensures .0 ∙ ap (λ (x : ℤ). lowest (payRows x n)) (toZ-ofZ (start .fits .adjustment)) ∙ same .0,
+      c .pay .ensures .0 ∙ ap (λ (x : ℤ). firstApplicable (payRows x n)) (toZ-ofZ (start .fits .adjustment)) ∙ same .0,
       c .pay .ensures .1 ∙ ap (λ (x : ℤ). payGiven x n) (toZ-ofZ (start .fits .adjustment)) ∙ same .1,
     )
 

@@ -4,7 +4,7 @@ use borrow.Author.Tests.{not-true, not-false}
 use lib.Dec.{leb}
 use lib.IntN.{ℤ, natAbs}
 use Rattle.money.proofs.Pounds.{wire}
-use Rattle.year.specs.Year.{goodFactors, goodAmount, goodLines}
+use Rattle.year.specs.Year.{goodFactors, goodWpa, goodLines}
 use Rattle.year.proofs.checking.check_year.Statement.{statement}
 use Rattle.year.proofs.checking.check_year.Tie as tie
 
@@ -12,8 +12,8 @@ use Rattle.year.proofs.checking.check_year.Tie as tie
 factors : (c : tie.After-good-factors) → (let y = c .before .args .y in goodFactors (y .number) (y .pppi) (y .rate) (y .aic) (y .pyc) (y .pyf)) ≡ c .good-factors .result
 factors c = sym (c .good-factors .ensures)
 
-paid : (c : tie.After-within) → goodAmount (c .before .before .before .before .args .y .within) ≡ c .within .result
-paid c = sym (c .within .ensures ∙ ap (λ (z : ℤ). leb (natAbs z) 1000000000) (wire (c .before .before .before .before .args .y .within) (c .before .struct-told .given .1 .1 .1 .1 .1 .1 .1 .1 .1 .0 .1)))
+paid : (c : tie.After-within) → goodWpa (c .before .before .before .before .args .y .wpa) ≡ c .within .result
+paid c = sym (c .within .ensures ∙ ap (λ (z : ℤ). leb (natAbs z) 1000000000) (wire (c .before .before .before .before .args .y .wpa) (c .before .struct-told .given .1 .1 .1 .1 .1 .1 .1 .1 .1 .0 .1)))
 
 lined : (c : tie.After-good-lines) → goodLines (c .before .before .before .before .before .before .before .args .y .lines) (c .before .before .before .before .before .before .before .args .y .«line_count») ≡ c .good-lines .result
 lined c = sym (c .good-lines .ensures)

@@ -9,7 +9,7 @@ use mir.Syntax.{w64}
 use mir.Val.{toZ, ofZ}
 use Rattle.lists.proofs.Tests.{facts}
 use Rattle.money.proofs.Pounds.{wire, nonNeg-is}
-use Rattle.year.specs.Year.{goodAmount}
+use Rattle.year.specs.Year.{goodLineAmount}
 use Rattle.year.proofs.checking.good_line.Statement.{statement}
 use Rattle.year.proofs.checking.good_line.Tie as tie
 
@@ -17,7 +17,7 @@ use Rattle.year.proofs.checking.good_line.Tie as tie
 amount : (c : tie.After-struct-told) → toZ w64 (ofZ w64 (c .before .args .l .amount)) ≡ c .before .args .l .amount
 amount c = wire _ (c .struct-told .given .1 .1 .0 .1)
 
-small : (c : tie.After-within) → goodAmount (c .before .before .before .before .before .before .args .l .amount) ≡ c .within .result
+small : (c : tie.After-within) → goodLineAmount (c .before .before .before .before .before .before .args .l .amount) ≡ c .within .result
 small c = sym (c .within .ensures ∙ ap (λ (z : ℤ). leb (natAbs z) 1000000000) (amount (c .before .before .before .before .before)))
 
 signed : (c : tie.After-is-negative) → nonNeg (c .before .before .before .before .before .before .before .before .before .before .args .l .amount) ≡ not (c .is-negative .result)

@@ -6,7 +6,7 @@ use borrow.Author.Needs.{needs}
 use borrow.Author.Tests.{not-true, not-false}
 use lib.ListN.{length, take, drop, drop-of-length-le}
 use Rattle.lists.specs.Lists.{all}
-use Rattle.lists.proofs.Tests.{held}
+use Rattle.lists.proofs.Tests.{unmapped-length}
 use Rattle.year.specs.Year.{goodLine, isZeroLine}
 use Rattle.year.proofs.Slots.{slotsGood, slots-start, slots-good, slots-bad}
 use Rattle.year.proofs.checking.good_slots.Statement.{statement}
@@ -21,7 +21,7 @@ abbrev μ-loop : tie.MeasureT-loop
 μ-loop count lines k₀ k = 64 - k
 
 len : (c : tie.Start Inv-loop μ-loop) → length (c .args .t1) ≡ 64
-len c = search (needs, held)
+len c = search (needs, unmapped-length)
 
 loop-holds : tie.Need-loop-holds Inv-loop μ-loop
 loop-holds c = (omega arith, slots-start (c .args .count) (c .args .t1))

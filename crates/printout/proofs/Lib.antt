@@ -1,4 +1,0 @@
--- Laws on what is printed.
-pub mod Lines
-pub mod Sheets
-pub mod Only

@@ -1,0 +1,152 @@
+-- Document 01, "The yearly return": the table of tags.
+use mathlib.Core.Bool.{Bool, not, _&&_}
+use mathlib.Core.List.{List, [], _∷_, _++_}
+use Prim.Native.Nat.{ℕ, _+_}
+use lib.Dec.{leb, ltb, eqb}
+use lib.IntN.{ℤ, pos, natAbs}
+use Rattle.calendar.specs.Years.{lastYear, yearStart, yearEnd}
+use Rattle.entries.specs.declared.Entry.{Entry}
+use Rattle.outage.specs.Log.{slots, lastRegimeEnd, validEntries}
+use Rattle.year.specs.declared.Line.{Line}
+use Rattle.year.specs.Year.{goodLine, lineSlots}
+use Rattle.codec.specs.Format.{Value, num, int, pair, mapped, restricted, Item, tagged, Codec, one, opt, many, both}
+
+-- ---- values
+-- 01: "year, 1 byte, 1 to 25"
+abbrev pub yearValue : Value ℕ
+yearValue = num 1 1 lastYear
+
+-- 02: "PPPI, 4 bytes", 5,000 to 50,000
+abbrev pub pppiValue : Value ℕ
+pppiValue = num 4 5000 50000
+
+-- 03: "rate, 4 bytes", 1 to 200,000
+abbrev pub rateValue : Value ℕ
+rateValue = num 4 1 200000
+
+-- 04: "AIC, 2 bytes", 0 to 20,000
+abbrev pub aicValue : Value ℕ
+aicValue = num 2 0 20000
+
+-- 05: "PYC and PYF, 2 bytes each", 0 to 10,000; "absent means 10,000 for both, and both 10,000 may not be written"
+abbrev pub leftOut : ℕ → ℕ × ℕ
+leftOut number = (10000, 10000)
+
+abbrev pub isLeftOut : ℕ → ℕ × ℕ → Bool
+isLeftOut number f = eqb (f .0) (leftOut number .0) && eqb (f .1) (leftOut number .1)
+
+abbrev pub factorsValue : ℕ → Value (ℕ × ℕ)
+factorsValue number = restricted (λ f. not (isLeftOut number f)) (pair (num 2 0 10000) (num 2 0 10000))
+
+-- 06: "kind, currency, 8-byte amount"
+abbrev pub toLine : ℕ × (ℕ × ℤ) → Line
+toLine p = record { kind = p .0; currency = p .1 .0; amount = p .1 .1 }
+
+abbrev pub fromLine : Line → ℕ × (ℕ × ℤ)
+fromLine l = (l .kind, (l .currency, l .amount))
+
+abbrev pub lineLayout : Value Line
+lineLayout = mapped toLine fromLine (pair (num 1 0 255) (pair (num 1 0 255) (int 1000000000)))
+
+abbrev pub lineValue : Value Line
+lineValue = restricted goodLine lineLayout
+
+-- 07: "start, end (4 bytes each), MW (2)"
+abbrev pub toEntry : ℕ × (ℕ × ℕ) → Entry
+toEntry p = record { start = p .0; end = p .1 .0; mw = p .1 .1 }
+
+abbrev pub fromEntry : Entry → ℕ × (ℕ × ℕ)
+fromEntry e = (e .start, (e .end, e .mw))
+
+abbrev pub entryLayout : Value Entry
+entryLayout = mapped toEntry fromEntry (pair (num 4 0 4294967295) (pair (num 4 0 4294967295) (num 2 0 65535)))
+
+-- it starts from a first minute on and before an end
+abbrev pub startsBetween : ℕ → ℕ → Entry → Bool
+startsBetween first end e = leb first (e .start) && ltb (e .start) end
+
+-- "start in the year, regime end 13,632,480"
+abbrev pub startsIn : ℕ → Entry → Bool
+startsIn number e = startsBetween (yearStart number) (yearEnd number lastRegimeEnd) e
+
+-- "in log order": with those before it, it keeps every rule of the log
+abbrev pub mayFollow : ℕ → List Entry → Entry → Bool
+mayFollow number before e = startsIn number e && validEntries lastRegimeEnd (before ++ (e ∷ []))
+
+abbrev pub entryValue : ℕ → List Entry → Value Entry
+entryValue number before = restricted (mayFollow number before) entryLayout
+
+-- 08: "1, one byte"
+abbrev pub markValue : Value ℕ
+markValue = num 1 1 1
+
+-- 09: "within-period adjustment, 8 bytes, not 0, magnitude at most 10^9"
+abbrev pub isNone : ℤ → Bool
+isNone z = eqb (natAbs z) 0
+
+abbrev pub wpaValue : Value ℤ
+wpaValue = restricted (λ z. not (isNone z)) (int 1000000000)
+
+-- ---- fields
+abbrev pub lineItem : List Line → Item Line
+lineItem before = tagged 6 lineValue
+
+-- how many bytes the field of an outage has: a head of three, and its layout
+abbrev pub entryBytes : ℕ
+entryBytes = 3 + entryLayout .len
+
+abbrev pub entryItem : ℕ → List Entry → Item Entry
+entryItem number before = tagged 7 (entryValue number before)
+
+abbrev pub factors : ℕ → Codec (ℕ × ℕ)
+factors number = opt (tagged 5 (factorsValue number)) (leftOut number) (isLeftOut number)
+
+-- "0 to 64, order kept"
+abbrev pub lines : Codec (List Line)
+lines = many lineItem lineSlots
+
+-- "0 to 400"
+abbrev pub outages : ℕ → Codec (List Entry)
+outages number = many (entryItem number) slots
+
+-- "present where an Exceptional Event is marked": 1, or 0 where it is absent
+abbrev pub mark : Codec ℕ
+mark = opt (tagged 8 markValue) 0 (λ n. eqb n 0)
+
+-- "absent means 0"
+abbrev pub wpa : Codec ℤ
+wpa = opt (tagged 9 wpaValue) (pos 0) isNone
+
+-- ---- "Tags ascend; only 06 and 07 repeat."
+-- the four required fields
+abbrev pub RequiredParts : Type 0
+RequiredParts = ℕ × (ℕ × (ℕ × ℕ))
+
+abbrev pub required : Codec RequiredParts
+required =
+    both (one (tagged 1 yearValue)) (λ number.
+    both (one (tagged 2 pppiValue)) (λ pppi.
+    both (one (tagged 3 rateValue)) (λ rate.
+    one (tagged 4 aicValue))))
+
+-- all that follows them in the return of a year
+abbrev pub BodyParts : Type 0
+BodyParts = (ℕ × ℕ) × (List Line × (List Entry × (ℕ × ℤ)))
+
+abbrev pub body : ℕ → Codec BodyParts
+body number =
+    both (factors number) (λ f.
+    both lines (λ l.
+    both (outages number) (λ o.
+    both mark (λ m.
+    wpa))))
+
+abbrev pub Parts : Type 0
+Parts = RequiredParts × BodyParts
+
+unfoldable pub form : Codec Parts
+form = both required (λ h. body (h .0))
+
+-- "The longest valid return has 6,077 bytes"
+abbrev pub longest : ℕ
+longest = 6077

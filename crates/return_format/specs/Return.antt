@@ -1,0 +1,111 @@
+-- What reading and writing a return give: document 01, "The yearly return" and "Numbers a call can give instead".
+use mathlib.Core.Bool.{Bool, cond, not, _&&_}
+use mathlib.Core.List.{List, [], _∷_}
+use Prim.Native.Nat.{ℕ}
+use lib.Dec.{ltb, eqb}
+use lib.ListN.{length, take}
+use Rattle.lists.specs.Lists.{all, padded}
+use Rattle.refusals.specs.Refusals.{Rows, accepted}
+use Rattle.refusals.specs.declared.Refusal.the-variants.{BrokenLog, BadYear, Malformed, NoRoom}
+use Rattle.refusals.specs.declared.Answer.the-variants.{Refused}
+use Rattle.outage.specs.declared.Log.{Log}
+use Rattle.outage.specs.Log.{lastRegimeEnd, validLog, logEntries, logHolding}
+use Rattle.year.specs.declared.Year.{Year}
+use Rattle.year.specs.Year.{freshYear, goodYear, lineSlots, zeroLine}
+use Rattle.codec.specs.Message as Message
+use Rattle.codec.specs.Message.{lengthIn, bufferIn}
+use Rattle.return_format.specs.declared.Return.{Return}
+use Rattle.return_format.specs.Form.{Parts, form, startsIn}
+pub use Rattle.return_format.specs.Form.{leftOut, isLeftOut}
+pub use Rattle.codec.specs.Message.{whole, refused, isRefused, placeIn}
+
+-- ---- a year and the parts of its return
+abbrev pub yearOf : Parts → Year
+yearOf p = record {
+  number = p .0 .0;
+  pppi = p .0 .1 .0;
+  rate = p .0 .1 .1 .0;
+  aic = p .0 .1 .1 .1;
+  pyc = p .1 .0 .0;
+  pyf = p .1 .0 .1;
+  -- "Line slots past the count are zero."
+  lines = padded lineSlots zeroLine (p .1 .1 .0);
+  «line_count» = length (p .1 .1 .0);
+  exceptional = eqb (p .1 .1 .1 .1 .0) 1;
+  wpa = p .1 .1 .1 .1 .1;
+  log = logHolding lastRegimeEnd (p .1 .1 .1 .0);
+}
+
+abbrev pub partsOf : Year → Parts
+partsOf y = (
+  (y .number, (y .pppi, (y .rate, y .aic))),
+  (
+    (y .pyc, y .pyf),
+    (
+      take (y .«line_count») (y .lines),
+      (
+        logEntries (y .log),
+        (cond (y .exceptional) 1 0, y .wpa),
+      ),
+    ),
+  ),
+)
+
+-- ---- reading
+-- "At most 8,192 bytes."
+abbrev pub mostBytes : ℕ
+mostBytes = 8192
+
+-- a year, or a refusal's number and place
+abbrev pub Reading : Type 0
+Reading = Message.Reading Year
+
+-- "Refused at the first byte of the first field" that cannot be taken where it stands, or at the end. "A longer return is
+-- refused at place 8,192 before reading."
+abbrev pub readingOf : List ℕ → Reading
+readingOf = Message.reading form yearOf mostBytes
+
+-- "a refused reading gives a fresh year"
+abbrev pub yearIn : Reading → Year
+yearIn = Message.valueIn freshYear
+
+abbrev pub readRows : List ℕ → Rows
+readRows bs = (Malformed, isRefused (readingOf bs)) ∷ []
+
+abbrev pub readPlace : List ℕ → ℕ
+readPlace bs = placeIn (readingOf bs)
+
+abbrev pub readYear : List ℕ → Year
+readYear bs = yearIn (readingOf bs)
+
+-- a refused reading as the call gives it
+abbrev pub refusedAt : ℕ → Return
+refusedAt place = record { answer = Refused Malformed; place = place; year = freshYear }
+
+-- ---- writing
+-- 9: no "start outside it" nor "a regime end other than 13,632,480"
+abbrev pub logFits : Log → ℕ → Bool
+logFits log number = eqb (log .«regime_end») lastRegimeEnd && all (startsIn number) (logEntries log)
+
+-- nor anything of the year but its log out of range
+abbrev pub writable : Year → Bool
+writable y = goodYear y && logFits (y .log) (y .number)
+
+-- a valid year, that is one that may be written
+abbrev pub validYear : Year → Bool
+validYear y = validLog (y .log) && writable y
+
+-- the bytes of its return
+unfoldable pub returnOf : Year → List ℕ
+returnOf y = form .write (partsOf y)
+
+abbrev pub writeRows : Year → ℕ → Rows
+writeRows y room =
+    (BrokenLog, not (validLog (y .log))) ∷ (BadYear, not (writable y)) ∷ (NoRoom, ltb room (length (returnOf y))) ∷ []
+
+abbrev pub writtenLength : Year → ℕ → ℕ
+writtenLength y room = lengthIn (accepted (writeRows y room)) (returnOf y)
+
+-- "Bytes past a written return are untouched", and all of them beside a refusal
+abbrev pub writtenBuffer : Year → List ℕ → List ℕ
+writtenBuffer y out = bufferIn (accepted (writeRows y (length out))) (returnOf y) out

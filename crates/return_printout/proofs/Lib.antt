@@ -1,0 +1,4 @@
+-- Laws on what is printed.
+pub mod Lines
+pub mod YearLines
+pub mod Only

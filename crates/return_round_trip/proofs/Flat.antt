@@ -1,0 +1,169 @@
+-- A year's return is its fields one after the other, each of them whole. So are the bytes of an accepted return, and their
+-- tags ascend. Assumes nothing.
+use mathlib.Core.Path.{_≡_, refl, sym, ap, subst, _∙_}
+use mathlib.Core.Bool.{Bool, true, false, cond, not, _&&_, _||_}
+use mathlib.Core.Logic.{_⊎_, inl, inr}
+use mathlib.Core.List.{List, [], _∷_, _++_, append-nil, append-assoc, map}
+use Prim.Native.Nat.{ℕ, suc, _≤_, _<_}
+use native.Mathlib.Omega.{arith}
+use borrow.Author.Tests.{eq-eqb, leb-true, le-leb, lt-ltb, le-ltb}
+use lib.Dec.{leb, ltb, eqb}
+use lib.ListN.{take}
+use Rattle.lists.specs.Lists.{all, pairwise}
+use Rattle.lists.proofs.Tests.{and-left, and-right, and-made, le-or-lt}
+use Rattle.lists.proofs.Lists.{all-as}
+use Rattle.refusals.specs.Refusals.{firstApplicable}
+use Rattle.entries.specs.declared.Entry.{Entry}
+use Rattle.outage.specs.Log.{logEntries}
+use Rattle.year.specs.declared.Line.{Line}
+use Rattle.year.specs.declared.Year.{Year}
+use Rattle.codec.specs.Numbers.{Bytes, spelled, bytesOf}
+use Rattle.codec.specs.Fields.{head, isWhole, joined}
+use Rattle.codec.specs.Format.{fieldOf, unless, texts}
+use Rattle.codec.proofs.Fields.{joined-append, same-fields}
+use Rattle.return_format.specs.Form.{yearValue, pppiValue, rateValue, aicValue, isLeftOut, markValue, isNone, lineItem, entryItem, body, form}
+use Rattle.return_format.specs.Return.{partsOf, readRows, readYear, returnOf}
+use Rattle.return_round_trip.specs.Flat.{factorsField, lineField, outageField, markField, wpaField, present, fieldsOf, tagOf, mayPrecede, Ordered}
+use Rattle.return_round_trip.proofs.RoundTrip.{accepted-whole, read-written}
+
+-- ---- the bytes are the fields one after the other
+unless-present : (b : Bool) (f : List ℕ) → unless b f ≡ joined (present (not b) f)
+unfolding joined
+unless-present true f = refl
+unless-present false f = sym (append-nil f)
+
+mark-present : (b : Bool) → unless (eqb (cond b 1 0) 0) (fieldOf 8 markValue (cond b 1 0)) ≡ joined (present b markField)
+unfolding joined fieldOf head bytesOf markField
+mark-present true = refl
+mark-present false = refl
+
+lines-flat : (before ls : List Line) → texts lineItem before ls ≡ joined (map lineField ls)
+unfolding texts joined fieldOf head bytesOf lineField
+lines-flat before [] = refl
+lines-flat before (l ∷ ls) = ap (λ (m : List ℕ). lineField l ++ m) (lines-flat (before ++ (l ∷ [])) ls)
+
+outages-flat : (number : ℕ) (before es : List Entry) → texts (entryItem number) before es ≡ joined (map outageField es)
+unfolding texts joined fieldOf head bytesOf outageField
+outages-flat number before [] = refl
+outages-flat number before (e ∷ es) = ap (λ (m : List ℕ). outageField e ++ m) (outages-flat number (before ++ (e ∷ [])) es)
+
+parts-flat : {p q r s t : List ℕ} (a b c d e : List (List ℕ)) → p ≡ joined a → q ≡ joined b → r ≡ joined c → s ≡ joined d → t ≡ joined e
+    → p ++ (q ++ (r ++ (s ++ t))) ≡ joined (a ++ (b ++ (c ++ (d ++ e))))
+parts-flat a b c d e f g h i j = simp joined-append cc
+
+pub flat : (y : Year) → returnOf y ≡ joined (fieldsOf y)
+unfolding returnOf form fieldOf head bytesOf joined factorsField wpaField fieldsOf
+flat y =
+    let ls = take (y .«line_count») (y .lines) in
+    let es = logEntries (y .log) in
+    let full = isLeftOut (y .number) (y .pyc, y .pyf) in
+    let zero = isNone (y .wpa) in
+    append-assoc (fieldOf 1 yearValue (y .number)) (fieldOf 2 pppiValue (y .pppi) ++ (fieldOf 3 rateValue (y .rate) ++ fieldOf 4 aicValue (y .aic))) (body (y .number) .write (partsOf y .1))
+    ∙ ap (λ (m : List ℕ). fieldOf 1 yearValue (y .number) ++ (fieldOf 2 pppiValue (y .pppi) ++ (fieldOf 3 rateValue (y .rate) ++ (fieldOf 4 aicValue (y .aic) ++ m))))
+    (parts-flat (present (not full) (factorsField (y .pyc) (y .pyf))) (map lineField ls) (map outageField es) (present (y .exceptional) markField) (present (not zero) (wpaField (y .wpa)))
+    (unless-present full (factorsField (y .pyc) (y .pyf)))
+    (lines-flat [] ls)
+    (outages-flat (y .number) [] es)
+    (mark-present (y .exceptional))
+    (unless-present zero (wpaField (y .wpa))))
+
+-- ---- "Tags ascend; only 06 and 07 repeat."
+-- a tag of the table, from k on
+abbrev from : ℕ → ℕ → Bool
+from k t = leb k t && leb t 9
+
+lowest-tag : (k t : ℕ) → from k t ≡ true → k ≤ t
+lowest-tag k t h = leb-true k t (and-left (leb k t) (leb t 9) h)
+
+precedes : (k t : ℕ) → from (suc k) t ≡ true → mayPrecede k t ≡ true
+unfolding mayPrecede
+precedes k t h = rw (lt-ltb k t (lowest-tag (suc k) t h))
+
+repeats : (k t : ℕ) → (eqb k 6 || eqb k 7) ≡ true → from k t ≡ true → mayPrecede k t ≡ true
+unfolding mayPrecede
+repeats k t r h = by (le-or-lt t k)
+  where
+    by : (t ≤ k) ⊎ (k < t) → (ltb k t || (eqb k t && (eqb k 6 || eqb k 7))) ≡ true
+    by (inr l) = rw (lt-ltb k t l)
+    by (inl l) = rw (le-ltb k t l, eq-eqb k t (omega (arith, lowest-tag k t h)), r)
+
+-- whole fields in order, of tags from k on
+record Rising (k : ℕ) (fields : List (List ℕ)) : Type 0 where
+  whole : all isWhole fields ≡ true
+  ascend : pairwise mayPrecede (map tagOf fields) ≡ true
+  known : all (from k) (map tagOf fields) ≡ true
+
+rising-none : {k : ℕ} → Rising k []
+rising-none = record { whole = refl; ascend = refl; known = refl }
+
+-- and so of tags from one lower on
+rising-on : {k : ℕ} {fields : List (List ℕ)} → Rising (suc k) fields → Rising k fields
+rising-on {k} {fields} r =
+    record {
+      whole = r .whole;
+      ascend = r .ascend;
+      known = all-as (from (suc k)) (from k) (map tagOf fields) (r .known) (λ t h. and-made (le-leb k t (omega (arith, lowest-tag (suc k) t h))) (and-right (leb (suc k) t) (leb t 9) h));
+    }
+
+module _ (k : ℕ) (small : leb k 9 ≡ true) where
+  -- one field more in front, which may stand before all the others
+  rising-more : {fields : List (List ℕ)} (f : List ℕ) → tagOf f ≡ k → isWhole f ≡ true → all (mayPrecede k) (map tagOf fields) ≡ true → Rising k fields → Rising k (f ∷ fields)
+  rising-more f e w a r =
+      record {
+        whole = and-made w (r .whole);
+        ascend = rw e (and-made a (r .ascend));
+        known = rw e (and-made (and-made (le-leb k k (omega arith)) small) (r .known));
+      }
+
+  rising-field : {fields : List (List ℕ)} (f : List ℕ) → tagOf f ≡ k → isWhole f ≡ true → Rising (suc k) fields → Rising k (f ∷ fields)
+  rising-field {fields} f e w r =
+      rising-more f e w (all-as (from (suc k)) (mayPrecede k) (map tagOf fields) (r .known) (precedes k)) (rising-on r)
+
+  -- a field that may be absent
+  rising-present : {fields : List (List ℕ)} (b : Bool) (f : List ℕ) → tagOf f ≡ k → isWhole f ≡ true → Rising (suc k) fields → Rising k (present b f ++ fields)
+  rising-present true f e w r = rising-field f e w r
+  rising-present false f e w r = rising-on r
+
+  rising-last : (b : Bool) (f : List ℕ) → tagOf f ≡ k → isWhole f ≡ true → Rising k (present b f)
+  rising-last true f e w = rising-more f e w refl rising-none
+  rising-last false f e w = rising-none
+
+  -- fields of one tag that may repeat
+  rising-many : {A : Type 0} {fields : List (List ℕ)} → (eqb k 6 || eqb k 7) ≡ true → (f : A → List ℕ) → ((a : A) → tagOf (f a) ≡ k) → ((a : A) → isWhole (f a) ≡ true)
+      → (l : List A) → Rising (suc k) fields → Rising k (map f l ++ fields)
+  rising-many again f e w [] r = rising-on r
+  rising-many {fields = fields} again f e w (a ∷ l) r =
+      let s = rising-many again f e w l r in
+      rising-more (f a) (e a) (w a) (all-as (from k) (mayPrecede k) (map tagOf (map f l ++ fields)) (s .known) (λ t. repeats k t again)) s
+
+rising : (y : Year) → Rising 1 (fieldsOf y)
+unfolding isWhole spelled bytesOf factorsField lineField outageField markField wpaField fieldsOf
+rising y =
+    rising-field 1 refl (1 ∷ 0 ∷ 1 ∷ bytesOf 1 (y .number)) refl refl
+    (rising-field 2 refl (2 ∷ 0 ∷ 4 ∷ bytesOf 4 (y .pppi)) refl refl
+    (rising-field 3 refl (3 ∷ 0 ∷ 4 ∷ bytesOf 4 (y .rate)) refl refl
+    (rising-field 4 refl (4 ∷ 0 ∷ 2 ∷ bytesOf 2 (y .aic)) refl refl
+    (rising-present 5 refl (not (isLeftOut (y .number) (y .pyc, y .pyf))) (factorsField (y .pyc) (y .pyf)) refl refl
+    (rising-many 6 refl refl lineField (λ l. refl) (λ l. refl) (take (y .«line_count») (y .lines))
+    (rising-many 7 refl refl outageField (λ e. refl) (λ e. refl) (logEntries (y .log))
+    (rising-present 8 refl (y .exceptional) markField refl refl
+    (rising-last 9 refl (not (isNone (y .wpa))) (wpaField (y .wpa)) refl refl))))))))
+
+pub flat-whole : (y : Year) → all isWhole (fieldsOf y) ≡ true
+flat-whole y = rising y .whole
+
+-- ---- the bytes of an accepted return
+-- they are the fields of the year that is read
+pub read-flat : (bs : List ℕ) → Bytes bs → firstApplicable (readRows bs) ≡ 0 → bs ≡ joined (fieldsOf (readYear bs))
+read-flat bs b h = sym (read-written bs (readYear bs) b (accepted-whole bs h) .0) ∙ flat (readYear bs)
+
+-- cut into whole fields, which goes in one way only (`same-fields`), their tags ascend
+pub tags-ascend : (bs : List ℕ) → Bytes bs → firstApplicable (readRows bs) ≡ 0 → (fields : List (List ℕ)) → all isWhole fields ≡ true → bs ≡ joined fields → Ordered fields
+unfolding fieldsOf
+tags-ascend bs b h fields w e =
+    let y = readYear bs in
+    let r = rising y in
+    let same : fieldsOf y ≡ fields = same-fields (fieldsOf y) fields (r .whole) w (sym (read-flat bs b h) ∙ e) in
+    let o : Ordered (fieldsOf y) =
+    record { ascend = r .ascend; required = refl; known = all-as (from 1) (λ t. leb t 9) (map tagOf (fieldsOf y)) (r .known) (λ t k. and-right (leb 1 t) (leb t 9) k) } in
+    subst Ordered same o
