@@ -3,7 +3,7 @@
 use crate::script::Call;
 use crate::words::time_words;
 
-/// What a refusal's number says (01, "Numbers a call can give instead").
+/// What a refusal's number says (rule 12.1).
 pub fn refusal_words(number: i128) -> &'static str {
     match number {
         1 => "the log breaks a rule",

@@ -1,4 +1,4 @@
--- The assessment of a period: document 000, SC3 19 to 22 (the periods); document 01, "Years and the licence book", "Assessment".
+-- The assessment of a period: rules 2.3 and 8.5 (SC3 22).
 use mathlib.Core.Bool.{Bool, true, cond, not, _&&_}
 use mathlib.Core.List.{List, [], _∷_, _++_, map}
 use mathlib.Core.Path.{_≡_}
@@ -24,7 +24,7 @@ use Rattle.balances.specs.Balance.{periodYears}
 use Rattle.balances.specs.Assessment.{CLN, FLN, balancesWithin, figuresIn, noFigures, assessNumber, assessFigures}
 use Rattle.balances.specs.declared.assessing.Assessment.{Assessment}
 
--- ---- "Assessment periods are years 1 to 5, 6 to 10 and so on": the numbers follow one another from a period's first year on
+-- ---- rule 2.3: the numbers follow one another, from the first year of a period on
 abbrev pub numbersFrom : ℕ → List Year → Bool
 numbersFrom number [] = true
 numbersFrom number (y ∷ ys) = eqb (y .number) number && numbersFrom (suc number) ys
@@ -55,7 +55,7 @@ yearlyOf book years log n = record {
   wpa = firstRows (pos 0) n (map (λ (y : Year). y .wpa) years);
 }
 
--- "a level or assessed revenue above 10^9 in magnitude"
+-- rule 12.1, 11: no level and no assessed revenue is above 10^9 in magnitude
 abbrev pub yearFits : Book → Log → Year → Bool
 yearFits book log y = levelFits (capLevel book y) && (levelFits (floorOf book y log) && levelFits (assessedRevenue y))
 

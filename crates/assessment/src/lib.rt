@@ -1,4 +1,4 @@
-// The assessment of a period, from the book, its years and the running log: document 000, SC3; document 01, "Assessment".
+// The assessment of a period, from the book, its years and the running log: rule 8.5 (SC3).
 // What is inside is over the first n of a period's years.
 use balances::Assessment;
 use balances::Yearly;

@@ -1,4 +1,4 @@
--- What an assessment over n years that is answered comes to: document 000, SC3. Assumes nothing.
+-- What an assessment over n years that is answered comes to: rules 8.2 and 8.3. Assumes nothing.
 use mathlib.Core.Path.{_≡_, sym, _∙_, subst}
 use Prim.Native.Nat.{ℕ}
 use Rattle.lists.proofs.Tests.{not-no}
@@ -8,7 +8,8 @@ use Rattle.balances.specs.declared.assessing.Yearly.{Yearly}
 use Rattle.balances.specs.declared.assessing.Figures.{Figures}
 use Rattle.balances.specs.declared.assessing.Assessment.{Assessment}
 use Rattle.balances.specs.NetPresent.{NearLicence}
-use Rattle.balances.specs.Assessment.{ARN, CLN, FLN, WPAN, assessable, figuresIn, noFigures, assessRowsOf, assessNumber, assessFigures, CFA, YearsGives}
+use Rattle.balances.specs.Assessment.{ARN, CLN, FLN, WPAN, assessable, figuresIn, noFigures, assessRowsOf, assessNumber, assessFigures, YearsGives}
+use Rattle.balances.specs.Licence.{CFA}
 use Rattle.balances.proofs.Licence.{adjustment-is-CFA}
 use Rattle.balances.proofs.NetPresent.{assessed-near}
 

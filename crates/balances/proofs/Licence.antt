@@ -1,4 +1,4 @@
--- What an assessment gives, in the licence's words: document 000, SC3. Assumes nothing.
+-- What an assessment gives, in the licence's terms: SC3 4 to 8. Assumes nothing.
 use mathlib.Core.Path.{_≡_, refl, sym, ap, _∙_}
 use mathlib.Core.Bool.{Bool, true, false, not, cond}
 use mathlib.Core.List.{List}
@@ -11,7 +11,8 @@ use lib.Signed.{ltZ}
 use borrow.Author.Tests.{ne-eqb}
 use Rattle.money.proofs.Parts.{over, under, diff, neg-over, neg-under, abs, from-lt, from-ge, to-eq}
 use Rattle.balances.specs.Balance.{carryOf, balanceAfter}
-use Rattle.balances.specs.Assessment.{heldBetween, RRAC, RRAF, isNone, CFA}
+use Rattle.balances.specs.Assessment.{heldBetween}
+use Rattle.balances.specs.Licence.{RRAC, RRAF, isNone, CFA}
 
 -- ---- balances: SC3 9 and 11 to 13, with the uplift of 16 to 18
 -- a balance starts as year one's amount

@@ -1,4 +1,4 @@
--- Balances beside the licence's sums: document 000, SC3 9, 11 to 13 and 16 to 18. Over any number of years. Assumes nothing.
+-- Balances beside the licence's sums: SC3 9, 11 to 13 and 16 to 18. Over any number of years. Assumes nothing.
 use mathlib.Core.Path.{_≡_, refl, sym, ap, _∙_}
 use mathlib.Core.Bool.{true}
 use mathlib.Core.Logic.{⊎-elim}
@@ -173,7 +173,7 @@ module _ (index : List ℕ) (amounts : List ℤ) where
   unfolding netPresent sumTo productLater roundings sumLater
   starts-near = rw +ℤ-invr (omega arith)
 
-  -- where every index that divides is above 0, the balance of document 01 is near the licence's sum
+  -- where every index that divides is above 0, the rounded balance is near the licence's sum
   pub rounded-near : (n : ℕ) → ((t : ℕ) → t < n → 0 < getD index t 0) → Near (balanceAfter index amounts n) index amounts n
   unfolding balanceAfter carryOf
   rounded-near zero h = starts-near

@@ -1,4 +1,4 @@
--- Balances: document 000, SC3 9, 11, 12, 13 (the sums) and 16, 17, 18 (the uplift); document 01, "Assessment". Over any number of years.
+-- A balance over any number of years: rules 8.1 and 8.4 (SC3 9, 11 to 13 the sums, 16 to 18 the uplift).
 use mathlib.Core.Bool.{Bool, true, _&&_}
 use mathlib.Core.List.{List}
 use Prim.Native.Nat.{ℕ, zero, suc, _+_, _*_}
@@ -15,18 +15,17 @@ periodYears = 5
 abbrev pub goodCount : ℕ → Bool
 goodCount n = leb 1 n && leb n periodYears
 
--- ---- "1.0388 x PPPI(t)/PPPI(t-1)" (SC3 17, 18), "rounded"
+-- ---- rule 8.1: one year's uplift, rounded (SC3 17, 18)
 unfoldable pub carryOf : ℤ → ℕ → ℕ → ℤ
 carryOf balance before now = roundZ (balance *ℤ pos (10388 * now)) (10000 * before)
 
--- "a balance starts as year one's amount; the balance after a later year is the earlier balance x 10,388 x PPPI(t) / (10,000 x PPPI(t-1)),
--- rounded, plus that year's amount". Years count from 0 here.
+-- rule 8.1: the first year's amount; after a later year what was carried to it, and its amount. Years count from 0 here.
 unfoldable pub balanceAfter : List ℕ → List ℤ → ℕ → ℤ
 balanceAfter index amounts zero = getD amounts 0 (pos 0)
 balanceAfter index amounts (suc year) =
     carryOf (balanceAfter index amounts year) (getD index year 0) (getD index (suc year) 0) +ℤ getD amounts (suc year) (pos 0)
 
--- ---- "balances at most 10^10 in magnitude after each year": after so many years past the year `from`
+-- ---- rule 8.4: the limit of a balance, after each of so many years past the year `from`
 abbrev pub mostBalance : ℕ
 mostBalance = 10000000000
 
@@ -35,7 +34,7 @@ laterWithin index amounts from zero = true
 laterWithin index amounts from (suc left) =
     leb (natAbs (balanceAfter index amounts (from + 1))) mostBalance && laterWithin index amounts (from + 1) left
 
--- ---- "Yearly amounts have magnitude at most 10^9"; "PPPI 5,000 to 50,000": of the first n years
+-- ---- rule 8.4: yearly amounts and indices in range, of the first n years
 abbrev pub goodIndex : ℕ → Bool
 goodIndex i = leb 5000 i && leb i 50000
 

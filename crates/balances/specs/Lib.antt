@@ -3,3 +3,4 @@ pub mod Balance
 pub mod Assessment
 pub mod NetPresent
 pub mod Steps
+pub mod Licence

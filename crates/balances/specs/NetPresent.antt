@@ -1,4 +1,4 @@
--- Net present values: document 000, SC3 9, 11, 12, 13 (the sums) and 16, 17, 18 (the uplift), with nothing rounded. Over any number of years.
+-- Net present values with nothing rounded, over any number of years: SC3 9, 11 to 13 (the sums) and 16 to 18 (the uplift); rule 8.1.
 -- Years count from 0 here, up to the last, n. A fraction is two numbers, one over the line and one under it. No contract is stated by these
 -- definitions; theorems hold the balances that the contracts give beside them.
 use mathlib.Core.Bool.{cond}
@@ -37,7 +37,7 @@ commonDivisor index n = upliftUnder index 0 n
 abbrev pub UF : List ℕ → ℕ → ℕ → ℕ
 UF index t n = upliftOver index t n * upliftUnder index 0 t
 
--- ---- SC3 9, 11, 12, 13: "(AR(t1) x UF(t1)) + (AR(t2) x UF(t2)) + ..", over the common divisor
+-- ---- SC3 9, 11, 12, 13: the sum of amounts, each times its uplift; over the common divisor
 unfoldable pub sumTo : (ℕ → ℤ) → ℕ → ℤ
 sumTo term zero = term 0
 sumTo term (suc t) = sumTo term t +ℤ term (suc t)
@@ -45,7 +45,7 @@ sumTo term (suc t) = sumTo term t +ℤ term (suc t)
 unfoldable pub netPresent : List ℕ → List ℤ → ℕ → ℤ
 netPresent index amounts n = sumTo (λ (t : ℕ). getD amounts t (pos 0) *ℤ pos (UF index t n)) n
 
--- ---- document 01, "Assessment", with nothing rounded: the earlier balance x 10,388 x PPPI(t) / (10,000 x PPPI(t-1)), plus that year's amount.
+-- ---- rule 8.1 with nothing rounded: the balance before, times the year's uplift, and the year's amount.
 -- Over the common divisor of the years so far
 unfoldable pub exactBalance : List ℕ → List ℤ → ℕ → ℤ
 exactBalance index amounts zero = getD amounts 0 (pos 0)

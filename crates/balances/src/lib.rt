@@ -1,4 +1,4 @@
-// Carried balances and the assessment of years' amounts: document 000, SC3; document 01, "Assessment".
+// Carried balances and the assessment of years' amounts: rules 8.1 to 8.4 (SC3).
 mod assessing;
 mod carrying;
 

@@ -1,4 +1,4 @@
--- Document 01, "Years and the licence book": the minutes of a Relevant Year, by the calendar.
+-- The minutes of a Relevant Year, by the calendar: rules 2.1 and 2.2.
 use mathlib.Core.Bool.{Bool, cond, not, _&&_, _||_}
 use mathlib.Core.List.{[], _∷_}
 use mathlib.Core.Path.{_≡_}
@@ -21,8 +21,7 @@ unfoldable pub daysTo : ℕ → ℕ
 daysTo zero = 0
 daysTo (suc n) = daysTo n + daysIn (2019 + n)
 
--- "Relevant Year 1 starts at minute 0", 00:00 on 31 January 2019, 30 days into that year;
--- "Years 2 to 25 start at 00:00 on 1 January 2020 to 2043"
+-- rule 2.1: year 1 starts on 31 January 2019, 30 days into the calendar's year, the others on 1 January
 unfoldable pub yearStart : ℕ → ℕ
 unfolding daysTo
 yearStart zero = 0
@@ -32,7 +31,7 @@ yearStart (suc (suc n)) = 1440 * (daysTo (suc n) - 30)
 abbrev pub lastYear : ℕ
 lastYear = 25
 
--- "A year ends where the next begins; year 25 ends at the regime end."
+-- rule 2.2: the last year ends at the regime end, another where the next starts
 abbrev pub yearEnd : ℕ → ℕ → ℕ
 yearEnd year regimeEnd = cond (eqb year lastYear) regimeEnd (yearStart (suc year))
 

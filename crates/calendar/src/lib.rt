@@ -1,4 +1,4 @@
-// The Relevant Years of the regime: document 01, "Years and the licence book".
+// The Relevant Years of the regime: rules 2.1 and 2.2.
 use refusals::Refusal;
 ghost use mathlib.Core.Path.{_≡_};
 ghost use Prim.Native.Nat.{_≤_};

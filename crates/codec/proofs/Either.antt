@@ -10,9 +10,12 @@ use lib.Dec.{eqb}
 use lib.ListN.{length, take, drop}
 use borrow.Author.Tests.{eq-eqb, eqb-true, ne-eqb}
 use Rattle.lists.proofs.Tests.{and-left, and-right, and-made}
-use Rattle.codec.specs.Numbers.{bytesOf, Bytes}
-use Rattle.codec.specs.Fields.{head, framed, isWhole}
-use Rattle.codec.specs.Format.{Value, mapO, beside, Item, field, fieldOf, firstFound, either, one, opt, requiredIf}
+use Rattle.codec.specs.Numbers.{bytesOf}
+use Rattle.codec.specs.Theorems.{Bytes}
+use Rattle.codec.specs.Fields.{head, framed}
+use Rattle.codec.specs.Theorems.{isWhole}
+use Rattle.codec.specs.Format.{Value, mapO, Item, field, fieldOf, one, opt}
+use Rattle.codec.specs.Shapes.{beside, firstFound, either, requiredIf}
 use Rattle.codec.proofs.Numbers.{spelled-bytes}
 use Rattle.codec.proofs.Values.{ValueLaws}
 use Rattle.codec.proofs.Items.{Over, over-le, ItemLaws}

@@ -13,9 +13,10 @@ use lib.ListN.{length, take, drop, length-append, length-drop}
 use lib.Seq.{append-snoc}
 use borrow.Author.Tests.{eq-eqb, eqb-true, le-leb, leb-true}
 use Rattle.lists.proofs.Tests.{and-left, and-right, and-made}
-use Rattle.codec.specs.Numbers.{Bytes}
-use Rattle.codec.specs.Fields.{isWhole, joined}
-use Rattle.codec.specs.Format.{Item, Res, got, stopped, more, ruled, scan, scanBy, texts, allFine, allKeep, many, every}
+use Rattle.codec.specs.Theorems.{Bytes}
+use Rattle.codec.specs.Theorems.{isWhole, joined}
+use Rattle.codec.specs.Format.{Item, Res, got, stopped, more, scan, texts, allFine, many}
+use Rattle.codec.specs.Shapes.{ruled, scanBy, allKeep, every}
 use Rattle.codec.proofs.Values.{bytes-drop}
 use Rattle.codec.proofs.Items.{Over, over-le, ItemLaws}
 use Rattle.codec.proofs.Fields.{no-empty}

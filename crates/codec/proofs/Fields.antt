@@ -1,4 +1,4 @@
--- "Fields of one tag byte, two length bytes, value": a field's head says where it ends, so bytes are whole fields in one way
+-- A field's head says where it ends, so bytes are whole fields in one way
 -- only. Assumes nothing.
 use mathlib.Core.Path.{_≡_, refl, sym, ap, _∙_}
 use mathlib.Core.Bool.{true}
@@ -10,7 +10,7 @@ use lib.ListN.{length, take}
 use lib.Seq.{take-at}
 use Rattle.lists.specs.Lists.{all}
 use Rattle.lists.proofs.Tests.{and-left, and-right}
-use Rattle.codec.specs.Fields.{isWhole, joined}
+use Rattle.codec.specs.Theorems.{isWhole, joined}
 
 -- the fields of two lists of fields, one after the other
 pub joined-append : (fs gs : List (List ℕ)) → joined (fs ++ gs) ≡ joined fs ++ joined gs

@@ -11,8 +11,10 @@ use lib.Dec.{leb, eqb}
 use lib.Seq.{drop-at, length-take-le, drop-drop}
 use borrow.Author.Tests.{eq-eqb, eqb-true, ne-eqb, le-leb, leb-true}
 use Rattle.lists.proofs.Tests.{and-left, and-right}
-use Rattle.codec.specs.Numbers.{spelled, bytesOf, Bytes}
-use Rattle.codec.specs.Fields.{head, framed, isWhole}
+use Rattle.codec.specs.Numbers.{spelled, bytesOf}
+use Rattle.codec.specs.Theorems.{Bytes}
+use Rattle.codec.specs.Fields.{head, framed}
+use Rattle.codec.specs.Theorems.{isWhole}
 use Rattle.codec.specs.Format.{Value, when, Item, field, fieldOf, tagged}
 use Rattle.codec.proofs.Numbers.{bytes-length, spelled-bytes, bytes-spelled}
 use Rattle.codec.proofs.Values.{ValueLaws, bytes-drop, bytes-take}

@@ -13,10 +13,11 @@ use lib.ListN.{length, take, drop, length-append, length-drop, take-append-drop}
 use lib.Seq.{take-at, drop-at, take-add, length-take-le}
 use Rattle.lists.specs.Lists.{all}
 use Rattle.lists.proofs.Tests.{and-left, le-or-lt}
-use Rattle.codec.specs.Numbers.{Bytes}
-use Rattle.codec.specs.Fields.{isWhole, joined}
+use Rattle.codec.specs.Theorems.{Bytes}
+use Rattle.codec.specs.Theorems.{isWhole, joined}
 use Rattle.codec.specs.Format.{Res, got, stopped, Codec, malformed}
-use Rattle.codec.specs.Message.{Reading, whole, refused, finish, reading, Messages, RefusalPlace}
+use Rattle.codec.specs.Message.{Reading, whole, refused, finish, reading}
+use Rattle.codec.specs.Theorems.{Messages, RefusalPlace}
 use Rattle.codec.proofs.Fields.{no-empty, Further, further}
 use Rattle.codec.proofs.Formats.{Lawful}
 use Rattle.codec.proofs.Places.{restOf, moved, SameField, Placed, Numbered}

@@ -9,7 +9,8 @@ use native.Mathlib.Omega.{arith}
 use mathlib.Core.List.{List, [], _∷_, _++_, append-assoc, append-nil}
 use lib.ListN.{length, getD, take, drop, set, length-append, length-drop}
 use lib.Seq.{take-suc, getD-drop, drop-drop, set-comm, sets}
-use Rattle.codec.specs.Numbers.{spelled, bytesOf, Bytes}
+use Rattle.codec.specs.Numbers.{spelled, bytesOf}
+use Rattle.codec.specs.Theorems.{Bytes}
 use Rattle.codec.specs.Fields.{framed}
 
 pub spelled-snoc : (a : ℕ) (xs : List ℕ) (x : ℕ) → spelled a (xs ++ (x ∷ [])) ≡ spelled a xs * 256 + x

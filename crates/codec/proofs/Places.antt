@@ -10,8 +10,8 @@ use lib.ListN.{length, take, drop, take-append-drop}
 use lib.Seq.{drop-at, length-take-le}
 use Rattle.lists.specs.Lists.{all}
 use Rattle.lists.proofs.Tests.{and-left, and-right, and-made}
-use Rattle.codec.specs.Numbers.{Bytes}
-use Rattle.codec.specs.Fields.{isWhole, joined}
+use Rattle.codec.specs.Theorems.{Bytes}
+use Rattle.codec.specs.Theorems.{isWhole, joined}
 use Rattle.codec.specs.Format.{Item, Res, got, stopped, Codec, malformed, need, one, orElse, opt, pairUp, andThen, both}
 use Rattle.codec.proofs.Values.{bytes-right}
 use Rattle.codec.proofs.Items.{ItemLaws}

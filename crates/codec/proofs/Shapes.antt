@@ -10,7 +10,8 @@ use native.Mathlib.Omega.{arith}
 use lib.Dec.{eqb}
 use borrow.Author.Tests.{eqb-true, ne-eqb}
 use Rattle.lists.proofs.Tests.{and-left, not-yes}
-use Rattle.codec.specs.Format.{Value, num, pair, restricted, beside, Item, field, tagged, either, Codec, malformed, one, many, every, requiredIf, both}
+use Rattle.codec.specs.Format.{Value, num, pair, restricted, Item, field, tagged, Codec, malformed, one, many, both}
+use Rattle.codec.specs.Shapes.{beside, either, every, requiredIf}
 use Rattle.codec.proofs.Values.{ValueLaws, num-laws, pair-laws, restricted-laws}
 use Rattle.codec.proofs.Items.{ItemLaws, tagged-laws}
 use Rattle.codec.proofs.Found.{restricted-passes}

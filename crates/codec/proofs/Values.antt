@@ -16,7 +16,8 @@ use mir.Syntax.{w64}
 use mir.Val.{toZ, ofZ, SFits}
 use mir.ValLaws.{toZ-ofZ, ofZ-toZ, ofZ-fits}
 use Rattle.lists.proofs.Tests.{and-left, and-right}
-use Rattle.codec.specs.Numbers.{spelled, bytesOf, Bytes}
+use Rattle.codec.specs.Numbers.{spelled, bytesOf}
+use Rattle.codec.specs.Theorems.{Bytes}
 use Rattle.codec.specs.Format.{Value, when, mapO, bindO, num, int, pair, mapped, restricted}
 use Rattle.codec.proofs.Numbers.{bytes-length, spelled-bytes, bytes-spelled, fits-word, spelled-small}
 

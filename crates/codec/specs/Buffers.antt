@@ -1,4 +1,4 @@
--- Bytes written into a lent buffer: "Bytes past a written return are untouched."
+-- Bytes written into a lent buffer, and no other byte changed: rule 10.7.
 use mathlib.Core.Bool.{Bool, cond}
 use mathlib.Core.List.{List}
 use mathlib.Core.Path.{_≡_}

@@ -1,11 +1,11 @@
 -- A format is a term: values of a fixed number of bytes, fields with a tag, and fields in order. Each part says how it is
 -- read, how it is written, and what may be written, so that reading and writing are one definition.
-use mathlib.Core.Bool.{Bool, true, false, cond, _&&_, _||_}
+use mathlib.Core.Bool.{Bool, true, false, _&&_, _||_}
 use mathlib.Core.List.{List, [], _∷_, _++_}
 use mathlib.Core.Option.{Option, some, none}
 use mathlib.Core.Path.{_≡_}
 use Prim.Native.Nat.{ℕ, zero, suc, _+_, _≤_}
-use lib.Dec.{leb, eqb}
+use lib.Dec.{leb}
 use lib.IntN.{ℤ, natAbs}
 use lib.ListN.{length, take, drop}
 use mir.Syntax.{w64}
@@ -42,7 +42,7 @@ num n lo hi = record {
   fine = λ v. leb lo v && leb v hi;
 }
 
--- a signed number of eight bytes, "two's complement", of at most this magnitude
+-- a signed number of eight bytes, of at most this magnitude
 abbrev pub int : ℕ → Value ℤ
 int most = record {
   len = 8;
@@ -73,15 +73,6 @@ restricted test v = record {
   fine = λ a. v .fine a && test a;
 }
 
--- a value with a number beside it that is always k and is not written
-abbrev pub beside : {A : Type 0} → ℕ → Value A → Value (A × ℕ)
-beside k v = record {
-  len = v .len;
-  get = λ l. mapO (λ a. (a, k)) (v .get l);
-  put = λ p. v .put (p .0);
-  fine = λ p. v .fine (p .0) && eqb (p .1) k;
-}
-
 -- ---- fields
 -- its tag, or the lowest and the highest of those that it may have
 pub record Item (A : Type 0) : Type 0 where
@@ -102,22 +93,6 @@ fieldOf tag v a = head tag (v .len) ++ v .put a
 abbrev pub tagged : {A : Type 0} → ℕ → Value A → Item A
 tagged tag v = record { tag = tag; last = tag; look = field tag v; size = λ a. 3 + v .len; text = fieldOf tag v; fine = v .fine }
 
--- a field that is one of two: the first where the test holds of its value, else the second. Two lengths under one tag, or two
--- tags next to each other
-abbrev pub firstFound : {A : Type 0} → Option A → Option A → Option A
-firstFound none o = o
-firstFound (some a) o = some a
-
-abbrev pub either : {A : Type 0} → (A → Bool) → Item A → Item A → Item A
-either is f g = record {
-  tag = f .tag;
-  last = g .last;
-  look = λ bs. firstFound (f .look bs) (g .look bs);
-  size = λ a. cond (is a) (f .size a) (g .size a);
-  text = λ a. cond (is a) (f .text a) (g .text a);
-  fine = λ a. cond (is a) (f .fine a) (g .fine a);
-}
-
 -- ---- fields in order
 -- what a reader makes of bytes: a value and the bytes that are left, or a refusal's number and the bytes where it stands
 pub data Res (A : Type 0) : Type 0 where
@@ -129,11 +104,11 @@ pub record Codec (A : Type 0) : Type 0 where
   pub write : A → List ℕ
   pub ok : A → Bool
 
--- 13: "return malformed"
+-- rule 12.1: the number of bytes that are no return
 abbrev pub malformed : ℕ
 malformed = 13
 
--- "required"
+-- a field that has to be there
 abbrev pub need : {A : Type 0} → Item A → List ℕ → Option A → Res A
 need f bs (some a) = got a (drop (f .size a) bs)
 need f bs none = stopped malformed bs
@@ -141,7 +116,7 @@ need f bs none = stopped malformed bs
 abbrev pub one : {A : Type 0} → Item A → Codec A
 one f = record { read = λ bs. need f bs (f .look bs); write = f .text; ok = f .fine }
 
--- "absent means" d, which "may not be written": the test is true of d alone
+-- a field that is left out for d, and for d alone: the test is true of d and of nothing else
 abbrev pub orElse : {A : Type 0} → Item A → A → List ℕ → Option A → Res A
 orElse f d bs (some a) = got a (drop (f .size a) bs)
 orElse f d bs none = got d bs
@@ -153,7 +128,7 @@ unless false bs = bs
 abbrev pub opt : {A : Type 0} → Item A → A → (A → Bool) → Codec A
 opt f d is = record { read = λ bs. orElse f d bs (f .look bs); write = λ a. unless (is a) (f .text a); ok = λ a. is a || f .fine a }
 
--- "0 to n, order kept": what one may hold can depend on those before it
+-- at most n fields, in their order: what one may hold can depend on those before it
 abbrev pub more : {A : Type 0} → List A → List ℕ → (A → Res (List A)) → Option A → Res (List A)
 more before bs k none = got before bs
 more before bs k (some a) = k a
@@ -166,39 +141,12 @@ unfoldable pub texts : {A : Type 0} → (List A → Item A) → List A → List 
 texts f before [] = []
 texts f before (a ∷ l) = f before .text a ++ texts f (before ++ (a ∷ [])) l
 
--- how many bytes they have together
-unfoldable pub sizes : {A : Type 0} → (List A → Item A) → List A → List A → ℕ
-sizes f before [] = 0
-sizes f before (a ∷ l) = f before .size a + sizes f (before ++ (a ∷ [])) l
-
 unfoldable pub allFine : {A : Type 0} → (List A → Item A) → List A → List A → Bool
 allFine f before [] = true
 allFine f before (a ∷ l) = f before .fine a && allFine f (before ++ (a ∷ [])) l
 
 abbrev pub many : {A : Type 0} → (List A → Item A) → ℕ → Codec (List A)
 many f n = record { read = scan f n []; write = texts f []; ok = λ l. leb (length l) n && allFine f [] l }
-
--- as many as there are: each that is found keeps the rule after those before it, which gives 0, or it is refused where it stands by
--- the number that the rule gives
-abbrev pub ruled : {A : Type 0} → List ℕ → ℕ → Res (List A) → Res (List A)
-ruled bs zero go = go
-ruled bs (suc k) go = stopped (suc k) bs
-
-unfoldable pub scanBy : {A : Type 0} → (List A → Item A) → (List A → A → ℕ) → ℕ → List A → List ℕ → Res (List A)
-scanBy f rule zero before bs = got before bs
-scanBy f rule (suc n) before bs =
-    more before bs (λ a. ruled bs (rule before a) (scanBy f rule n (before ++ (a ∷ [])) (drop (f before .size a) bs))) (f before .look bs)
-
-unfoldable pub allKeep : {A : Type 0} → (List A → A → ℕ) → List A → List A → Bool
-allKeep rule before [] = true
-allKeep rule before (a ∷ l) = eqb (rule before a) 0 && allKeep rule (before ++ (a ∷ [])) l
-
-abbrev pub every : {A : Type 0} → (List A → Item A) → (List A → A → ℕ) → Codec (List A)
-every f rule = record { read = λ bs. scanBy f rule (length bs) [] bs; write = texts f []; ok = λ l. allFine f [] l && allKeep rule [] l }
-
--- required, or "absent means" d, as the test says
-abbrev pub requiredIf : {A : Type 0} → Bool → Item A → Item A → A → (A → Bool) → Codec A
-requiredIf must f g d is = cond must (one f) (opt g d is)
 
 -- one after the other: what follows can depend on what was read first
 abbrev pub pairUp : {A B : Type 0} → A → Res B → Res (A × B)

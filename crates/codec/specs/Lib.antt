@@ -5,3 +5,5 @@ pub mod Format
 pub mod Buffers
 pub mod Leaves
 pub mod Message
+pub mod Shapes
+pub mod Theorems

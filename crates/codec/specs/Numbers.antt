@@ -1,7 +1,6 @@
--- "numbers high byte first": document 01, "The yearly return". At every width.
+-- Numbers in bytes, the high byte first, at every width: rule 10.1.
 use mathlib.Core.List.{List, [], _∷_, _++_}
-use Prim.Native.Nat.{ℕ, zero, suc, _+_, _*_, _/_, _%_, _<_}
-use lib.ListN.{getD}
+use Prim.Native.Nat.{ℕ, zero, suc, _+_, _*_, _/_, _%_}
 
 -- what bytes spell after the number that those before them spell
 unfoldable pub spelled : ℕ → List ℕ → ℕ
@@ -12,7 +11,3 @@ spelled a (x ∷ xs) = spelled (a * 256 + x) xs
 unfoldable pub bytesOf : ℕ → ℕ → List ℕ
 bytesOf zero v = []
 bytesOf (suc n) v = bytesOf n (v / 256) ++ (v % 256 ∷ [])
-
--- a list of bytes
-abbrev pub Bytes : List ℕ → Type 0
-Bytes s = (i : ℕ) → getD s i 0 < 256

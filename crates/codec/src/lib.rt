@@ -1,4 +1,4 @@
-// Tagged fields in the caller's bytes: document 01, "The yearly return". A slice and a place go in; where the bytes are not
+// Tagged fields in the caller's bytes: rule 10.1. A slice and a place go in; where the bytes are not
 // there, or there is no room, the answer says so and nothing is written.
 mod laying;
 

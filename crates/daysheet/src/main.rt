@@ -1,5 +1,5 @@
 // Reads one yearly return on standard input and prints its year, the MW-minutes lost in the year and after its end, and
-// the assessed revenue; or `refused ` and the number. Document 01, "The yearly return".
+// the assessed revenue; or `refused ` and the number. Rules, section 11.
 use libc::STDIN_FILENO;
 use libc::STDOUT_FILENO;
 use return_printout::print_return;

@@ -49,8 +49,8 @@ use Rattle.settlement.specs.Growth.{growthEntries, growsTo, growthOf, paidOf}
 use Rattle.settlement.specs.Exact.{NearExact}
 use Rattle.settlement.specs.Calls.{gapHolds, gapRows, gapNumber, gapFigure, GapGives, growthRows, growthNumber, growthFigure, GrowthGives, payRows, payNumber, payFigure, PayGives, settleRows, SettleGives}
 use Rattle.settlement.proofs.Payments.{no-half, nearest, only-nearest, passing, passes, entry-rule, entry-greatest, near-paid}
-use Rattle.codec.specs.Numbers.{Bytes}
-use Rattle.codec.specs.Fields.{joined}
+use Rattle.codec.specs.Theorems.{Bytes}
+use Rattle.codec.specs.Theorems.{joined}
 use Rattle.return_format.specs.declared.Return.{Return}
 use Rattle.return_format.specs.Return.{mostBytes, Reading, whole, refused, readingOf, isRefused, placeIn, returnOf, writeRows}
 use Rattle.return_round_trip.specs.Flat.{fieldsOf}

@@ -14,7 +14,7 @@ use Rattle.refusals.proofs.Laws.{all-clear, done-clear}
 use Rattle.outage.specs.Log.{slots, validLog}
 use Rattle.year.specs.declared.Year.{Year}
 use Rattle.year.specs.Year.{lineSlots}
-use Rattle.codec.specs.Numbers.{Bytes}
+use Rattle.codec.specs.Theorems.{Bytes}
 use Rattle.return_format.specs.declared.Return.{Return}
 use Rattle.return_format.specs.Return.{Reading, whole, readingOf, isRefused, placeIn, yearIn, readRows, readYear, writable, validYear, returnOf, writeRows}
 use Rattle.return_reading.specs.Reading.{ReturnGives}

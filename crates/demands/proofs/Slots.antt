@@ -12,7 +12,8 @@ use Rattle.lists.proofs.Tests.{and-left, and-right}
 use Rattle.lists.proofs.Lists.{all-at, pairwise-at}
 use Rattle.entries.specs.declared.Entry.{Entry}
 use Rattle.outage.specs.declared.Log.{Log}
-use Rattle.entries.specs.Row.{BothCover, goodEntry, notBefore, sharesMinute, isZero, zeroEntry}
+use Rattle.entries.specs.Row.{goodEntry, notBefore, sharesMinute, isZero, zeroEntry}
+use Rattle.entries.specs.Theorems.{BothCover}
 use Rattle.outage.specs.Log.{slots, rowOf, logEntries}
 use Rattle.entries.proofs.Order.{good-span, in-turn, apart-says}
 use Rattle.entries.proofs.Keys.{ahead, keys-ascend}

@@ -40,7 +40,7 @@ use Rattle.settlement.specs.declared.medians.Gap.{Gap}
 use Rattle.settlement.specs.declared.table.Growth.{Growth}
 use Rattle.settlement.specs.declared.paying.Payment.{Payment}
 use Rattle.settlement.specs.Calls.{gapNumber, gapFigure, GapGives, growthNumber, growthFigure, GrowthGives, payNumber, payFigure, PayGives, SettleGives, ReconcileGives}
-use Rattle.codec.specs.Numbers.{Bytes}
+use Rattle.codec.specs.Theorems.{Bytes}
 use Rattle.return_format.specs.declared.Return.{Return}
 use Rattle.return_reading.specs.Reading.{ReturnGives}
 use Rattle.return_writing.specs.declared.Written.{Written}

@@ -1,5 +1,5 @@
 -- Demand 2. Levels, assessed revenue, carried balances, adjustment, settlement and reconciliation equal the published licence formulas and
--- methodology, simplified and rounded only as document 01 says. A return that is read and written again gives its own bytes, and a valid
+-- methodology, simplified and rounded only as the rules say. A return that is read and written again gives its own bytes, and a valid
 -- year that is written reads back as itself.
 -- Each part speaks of results that meet what the calls promise.
 use mathlib.Core.Path.{_≡_}
@@ -34,7 +34,8 @@ use Rattle.balances.specs.declared.assessing.Yearly.{Yearly}
 use Rattle.balances.specs.declared.assessing.Figures.{Figures}
 use Rattle.balances.specs.declared.assessing.Assessment.{Assessment}
 use Rattle.balances.specs.Balance.{periodYears, carryOf, balanceAfter}
-use Rattle.balances.specs.Assessment.{heldBetween, CFA, assessNumber, assessFigures, AssessGives}
+use Rattle.balances.specs.Assessment.{heldBetween, assessNumber, assessFigures, AssessGives}
+use Rattle.balances.specs.Licence.{CFA}
 use Rattle.balances.specs.NetPresent.{upliftOver, upliftUnder, commonDivisor, UF, netPresent, exactBalance, FiveUplifts, Near}
 use Rattle.assessment.specs.Period.{yearlyOf, PeriodGives}
 use Rattle.settlement.specs.declared.medians.Period.{Period}
@@ -44,8 +45,8 @@ use Rattle.settlement.specs.declared.paying.Payment.{Payment}
 use Rattle.settlement.specs.Gap.{daySum, hundredths}
 use Rattle.settlement.specs.Exact.{NearExact}
 use Rattle.settlement.specs.Calls.{gapNumber, gapFigure, GapGives, growthNumber, growthFigure, GrowthGives, payNumber, payFigure, PayGives, SettleGives, ReconcileGives}
-use Rattle.codec.specs.Numbers.{Bytes}
-use Rattle.codec.specs.Fields.{isWhole, joined}
+use Rattle.codec.specs.Theorems.{Bytes}
+use Rattle.codec.specs.Theorems.{isWhole, joined}
 use Rattle.return_format.specs.declared.Return.{Return}
 use Rattle.return_format.specs.Return.{mostBytes}
 use Rattle.return_round_trip.specs.Flat.{fieldsOf, Ordered}
@@ -57,7 +58,7 @@ use Rattle.return_writing.specs.Written.{writtenNumber, WriteGives}
 use Rattle.return_refiling.specs.Refiled.{RefileGives}
 
 -- ---- what the figures of an assessment are
--- the balances after five years of the recursion of document 01 (SC3 9, 11, 12, 13), T, and the adjustment
+-- the balances after five years by rule 8.1, T, and the adjustment
 pub record Carried (y : Yearly) (f : Figures) : Type 0 where
   pub revenue : f .revenue ≡ balanceAfter (y .index) (y .revenue) 4
   pub cap : f .cap ≡ balanceAfter (y .index) (y .cap) 4
@@ -123,22 +124,22 @@ pub record Demand2 : Type 0 where
   pub period : (book : Book) (years : List Year) (log : Log) (r : Assessment) → length years ≡ 5 → PeriodGives book years log r → assessNumber r ≡ 0
       → AssessGives (yearlyOf book years log periodYears) r × IsCFA (assessFigures r)
   -- ---- settlement and reconciliation
-  -- 001, tables 1 and 2: n is that of the two medians, nearer to 200g/1,461 than a half, and no other whole number is as near; g of either sign
+  -- rule 9.2: n is that of the two medians, nearer to 200g/1,461 than a half, and no other whole number is as near; g of either sign
   pub gap : (earlier later : Period) (r : Gap) → GapGives earlier later r → gapNumber r ≡ 0 → pos (gapFigure r) ≡ hundredths (daySum earlier) (daySum later)
   pub no-half : (g k : ℤ) → g *ℤ pos 400 ≡ (k *ℤ pos 2 +ℤ pos 1) *ℤ pos 1461 → ⊥
   pub nearest : (earlier later : ℕ) → 2 * natAbs (hundredths earlier later *ℤ pos 1461 -ℤ (pos later -ℤ pos earlier) *ℤ pos 200) < 1461
   pub only-nearest : (earlier later : ℕ) (z : ℤ) → 2 * natAbs (z *ℤ pos 1461 -ℤ (pos later -ℤ pos earlier) *ℤ pos 200) ≤ 1461 → z ≡ hundredths earlier later
-  -- an entry is the greatest e with e^100 x 10,000^n at most 10^900 x 10,388^n
+  -- rule 9.3: an entry passes the test, and none above it does
   pub growth : (n : ℕ) (r : Growth) → GrowthGives n r → growthNumber r ≡ 0
       → (growthFigure r ^ 100 * 10000 ^ n ≤ 10 ^ 900 * 10388 ^ n) × ((e : ℕ) → e ^ 100 * 10000 ^ n ≤ 10 ^ 900 * 10388 ^ n → e ≤ growthFigure r)
   -- a payment is the magnitude x entry / 10^9 rounded down, sign restored, and near the exact amount
   pub payment : (amount : ℤ) (n : ℕ) (r : Payment) → PayGives amount n r → payNumber r ≡ 0 → (g : Growth) → GrowthGives n g
       → payFigure r ≡ onMagnitude (λ (m : ℕ). m * growthFigure g / 1000000000) amount
   pub payment-near : (amount : ℤ) (n : ℕ) (r : Payment) → PayGives amount n r → payNumber r ≡ 0 → NearExact (natAbs amount) n (natAbs (payFigure r))
-  -- 001, equation 1: an adjustment is paid over the gap of the two periods
+  -- rule 9.5, equation 1: an adjustment is paid over the gap of the two periods
   pub settled : (adjustment : ℤ) (measured settled : Period) (r : Payment) → SettleGives adjustment measured settled r → payNumber r ≡ 0
       → (g : Gap) → GapGives measured settled g → PayGives adjustment (gapFigure g) r
-  -- 001, equation 2: what is final less what was provisional, over the later gap
+  -- rule 9.5, equation 2: what is final less what was provisional, over the later gap
   pub reconciled : (final provisional : ℤ) (settled reconciled : Period) (r : Payment)
       → ReconcileGives final provisional settled reconciled r → SettleGives (final -ℤ provisional) settled reconciled r
   -- ---- "a valid year that is written reads back as itself": a year, with its 64 line slots and 400 entry slots, that was written

@@ -11,7 +11,8 @@ use Rattle.lists.specs.Lists.{sumFrom}
 use Rattle.calendar.specs.declared.YearMinutes.{YearMinutes}
 use Rattle.calendar.specs.Years.{minutesNumber, firstFigure, endFigure, MinutesGives}
 use Rattle.entries.specs.declared.Entry.{Entry}
-use Rattle.entries.specs.Row.{sharesMinute, BothCover, lostIn}
+use Rattle.entries.specs.Row.{sharesMinute, lostIn}
+use Rattle.entries.specs.Theorems.{BothCover}
 use Rattle.outage.specs.declared.Log.{Log}
 use Rattle.outage.specs.declared.losing.LostEnergy.{LostEnergy}
 use Rattle.outage.specs.declared.losing.LostEnergy.the-variants.{MwMinutes}

@@ -1,4 +1,4 @@
--- The figures that document 01 marks P, as what the calls give.
+-- The figures of the rules, section 13, as what the calls give.
 use mathlib.Core.Path.{_≡_}
 use mathlib.Core.Bool.{true, false}
 use mathlib.Core.List.{List, [], _∷_}
@@ -53,7 +53,7 @@ markedYear = record {
   log = freshYear .log;
 }
 
--- "five years at index 10,000, revenue 1,000,000, cap 900,000, floor 500,000 each, W of -100,000 in year 2"
+-- rule 13.4: five years alike but for W, which the second alone has
 abbrev pub five : {A : Type 0} → A → List A
 five a = a ∷ a ∷ a ∷ a ∷ a ∷ []
 
@@ -68,42 +68,42 @@ fiveYears = record {
 
 pub record FiveFigures (r : Assessment) : Type 0 where
   pub accepted : assessNumber r ≡ 0
-  -- "A 5,403,349"
+  -- A
   pub revenue : assessFigures r .revenue ≡ pos 5403349
-  -- "C 4,863,014"
+  -- C
   pub cap : assessFigures r .cap ≡ pos 4863014
-  -- "W -112,098"
+  -- W
   pub wpa : assessFigures r .wpa ≡ negℤ (pos 112098)
-  -- "adjustment -428,237"
+  -- the adjustment
   pub adjustment : assessFigures r .adjustment ≡ negℤ (pos 428237)
 
 pub record MarkedFigures : Type 0 where
-  -- "2021 with 104,832 minutes lost at 1,000 MW meets the target": year 3, lost from minute 1,009,440 on
+  -- rule 13.1: year 3, with so many minutes lost from its first on, meets its target
   pub met : (r : Target) → TargetGives publishedBook (outFor 1009440 104832) 3 r → r ≡ target.Met
-  -- "104,833 misses"
+  -- a minute more, and it does not
   pub missed : (r : Target) → TargetGives publishedBook (outFor 1009440 104833) 3 r → r ≡ target.Missed
-  -- "2020 meets at 106,272": year 2, lost from minute 482,400 on
+  -- year 2 is a leap year and has a day more to lose
   pub leap : (r : Target) → TargetGives publishedBook (outFor 482400 106272) 2 r → r ≡ target.Met
-  -- "cap 83,806,402, AIC 10,200, PPPI 11,000, whole year: 94,030,783"; "floor 48,807,317, AIF 10,000: 53,688,049"
+  -- rule 13.2: cap and floor of the published book
   pub cap-and-floor : (r : Levels) → LevelsGives publishedBook markedYear noOutage r → r ≡ levels.Pounds (pos 94030783) (pos 53688049)
-  -- "carry of 1,250 at equal index is 1,299", "of -1,250 is -1,299": no call carries alone, so this is of what every balance is carried by
+  -- rule 13.3: halves of either sign. No call carries alone, so this is of what every balance is carried by
   pub carry : carryOf (pos 1250) 10000 10000 ≡ pos 1299
   pub carry-back : carryOf (negℤ (pos 1250)) 10000 10000 ≡ negℤ (pos 1299)
-  -- "50,000,000 from index 10,000 to 10,200 is 52,978,800"
+  -- and to another index
   pub carry-index : carryOf (pos 50000000) 10000 10200 ≡ pos 52978800
   pub five-years : (r : Assessment) → AssessGives fiveYears r → FiveFigures r
-  -- "growth entries 0, 100, 200, 300: 1,000,000,000; 1,038,800,000; 1,079,105,440; 1,120,974,731"
+  -- rule 13.5: the first entry, and those of one, two and three years
   pub growth-0 : (r : Growth) → GrowthGives 0 r → r ≡ growth.Billionths 1000000000
   pub growth-100 : (r : Growth) → GrowthGives 100 r → r ≡ growth.Billionths 1038800000
   pub growth-200 : (r : Growth) → GrowthGives 200 r → r ≡ growth.Billionths 1079105440
   pub growth-300 : (r : Growth) → GrowthGives 300 r → r ≡ growth.Billionths 1120974731
-  -- "days 44,927 to 45,291 against 45,383 to 45,747: n = 125"
+  -- rule 13.6: 2023 against April 2024 to March 2025
   pub gap-years : (r : Gap) → GapGives (record { first = 44927; last = 45291 }) (record { first = 45383; last = 45747 }) r → r ≡ gap.Hundredths 125
-  -- "g 3,648 gives 499"
+  -- the greatest difference of day sums that is settled
   pub gap-most : (earlier later : Period) → goodPeriod earlier ≡ true → goodPeriod later ≡ true → daySum later ≡ daySum earlier + 3648
       → (r : Gap) → GapGives earlier later r → r ≡ gap.Hundredths 499
-  -- "3,649 is refused"
+  -- a day more, and it is refused
   pub gap-past : (earlier later : Period) → goodPeriod earlier ≡ true → goodPeriod later ≡ true → daySum later ≡ daySum earlier + 3649
       → (r : Gap) → GapGives earlier later r → r ≡ gap.Refused BadPeriod
-  -- "-10,000,001 at n = 100 pays -10,388,001"
+  -- rule 13.7: a payment back, rounded toward zero
   pub pays-back : (r : Payment) → PayGives (negℤ (pos 10000001)) 100 r → r ≡ payment.Pounds (negℤ (pos 10388001))

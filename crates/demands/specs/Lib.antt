@@ -1,4 +1,4 @@
--- The demands, a record each, and what they speak of.
+-- The demands, a record each, and what they speak of. No contract is stated by them; theorems say them of what the calls promise.
 pub mod Runs
 pub mod Log
 pub mod Demand1

@@ -1,4 +1,4 @@
--- Availability and its target: document 000, SC4 12, 16 and 18; document 01, "The log".
+-- Availability and its target: rules 5.2 to 5.4.
 use mathlib.Core.Bool.{Bool, true, false, cond, not}
 use mathlib.Core.List.{[], _∷_}
 use mathlib.Core.Path.{_≡_}
@@ -16,12 +16,12 @@ use Rattle.levels.specs.declared.measuring.Target.{Target}
 use Rattle.levels.specs.declared.measuring.Target.the-variants as target
 use Rattle.levels.specs.Book.{bookHolds, targetOf}
 
--- "Availability of a year is 1,000 times its minutes less its lost energy." (SC4 18)
+-- rule 5.2: what the cable could carry in a year, less what was lost in it (SC4 18)
 abbrev pub availabilityIn : Log → ℕ → ℕ
 availabilityIn log number =
     mostMw * (yearEnd number (log .«regime_end») - yearStart number) - lostEnergy (yearStart number) (yearEnd number (log .«regime_end»)) (logEntries log)
 
--- "The target ... times 60 for comparison; equality meets it." (SC4 16)
+-- rule 5.3: MWh against MW-minutes; equality is enough (SC4 16)
 abbrev pub meetsTarget : Book → Log → ℕ → Bool
 meetsTarget book log number = leb (60 * targetOf book number) (availabilityIn log number)
 

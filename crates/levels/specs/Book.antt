@@ -1,4 +1,4 @@
--- Document 01, "Years and the licence book": what the book holds.
+-- What the licence book holds: rules, section 3.
 use mathlib.Core.Bool.{Bool, cond, _&&_}
 use Prim.Native.Nat.{ℕ}
 use lib.Dec.{leb, eqb}
@@ -8,7 +8,7 @@ use Rattle.calendar.specs.Years.{lastYear}
 use Rattle.outage.specs.Log.{goodRegimeEnd, lastRegimeEnd}
 use Rattle.levels.specs.declared.Book.{Book}
 
--- "The fresh book has the published levels, regime end 13,632,480 and 0 elsewhere."
+-- rule 3.2: the fresh book
 abbrev pub publishedBook : Book
 publishedBook = record {
   «regime_end» = lastRegimeEnd;
@@ -24,21 +24,21 @@ publishedBook = record {
 }
 
 -- ---- the ranges
--- "targets for years 1 and 25, MWh: 0 to 20,000,000 each"
+-- rule 3.1: a target that is entered
 abbrev pub goodTarget : ℕ → Bool
 goodTarget target = leb target 20000000
 
 abbrev pub goodBookAmount : ℤ → Bool
 goodBookAmount z = leb (natAbs z) 1000000000
 
--- "preliminary cap and floor: 0 to 10^9", "adjustments: -10^9 to 10^9; each sum with its preliminary level 0 to 10^9"
+-- rule 3.1: a preliminary level, its two adjustments and their sum
 abbrev pub goodSum : ℤ → ℤ → ℤ → Bool
 goodSum preliminary construction opex =
     (nonNeg preliminary && goodBookAmount preliminary)
     && (goodBookAmount construction
     && (goodBookAmount opex && (nonNeg (preliminary +ℤ construction +ℤ opex) && goodBookAmount (preliminary +ℤ construction +ℤ opex))))
 
--- "floor factor on a miss: 0 to 10,000"
+-- rule 3.1: the floor factor on a miss
 abbrev pub goodFactor : ℕ → Bool
 goodFactor factor = leb factor 10000
 
@@ -49,7 +49,7 @@ goodBook b =
     && (goodTarget (b .«last_target»)
     && (goodFactor (b .«miss_factor») && (goodSum (b .pcl) (b .pcac) (b .orac) && goodSum (b .pfl) (b .pcaf) (b .oraf)))))
 
--- "a book entry out of range; book and log with different regime ends"
+-- rule 3.3: the book is in range, and the log beside it runs to the same regime end
 abbrev pub bookHolds : Book → ℕ → Bool
 bookHolds b regimeEnd = goodBook b && eqb (b .«regime_end») regimeEnd
 
@@ -60,6 +60,6 @@ capSum b = b .pcl +ℤ b .pcac +ℤ b .orac
 abbrev pub floorSum : Book → ℤ
 floorSum b = b .pfl +ℤ b .pcaf +ℤ b .oraf
 
--- ---- SC4 12 and Part F: "The target is 7,012,800 MWh in years 2 to 24", of years 1 and 25 as entered
+-- ---- rule 5.3: a year's target (SC4 12), of years 1 and 25 as entered (SC4 27 to 31)
 abbrev pub targetOf : Book → ℕ → ℕ
 targetOf b number = cond (eqb number 1) (b .«first_target») (cond (eqb number lastYear) (b .«last_target») 7012800)

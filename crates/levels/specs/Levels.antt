@@ -1,4 +1,4 @@
--- Cap and floor levels: document 000, SC2 4; document 01, "Levels and revenue".
+-- Cap and floor levels: rules, section 6 (SC2 4).
 use mathlib.Core.Bool.{Bool, cond, not, _&&_, _||_}
 use mathlib.Core.List.{[], _∷_}
 use mathlib.Core.Path.{_≡_}
@@ -22,11 +22,11 @@ use Rattle.levels.specs.Availability.{meetsTarget}
 unfoldable pub timesOf : ℤ → ℕ → ℤ
 timesOf amount factor = roundZ (amount *ℤ pos factor) 10000
 
--- "Rounded after each of three products, in that order of factors."
+-- rule 6.2: three products in their order, each rounded
 unfoldable pub levelOf : ℕ → ℤ → ℕ → ℕ → ℤ
 levelOf partial sum incentive pppi = timesOf (timesOf (timesOf sum partial) incentive) pppi
 
--- "AIF is 10,000 where the target is met or an Exceptional Event is marked, else the book's factor." (SC4 16)
+-- rule 6.3: the incentive at floor (SC4 16)
 abbrev pub aifOf : Bool → Bool → ℕ → ℕ
 aifOf met exceptional missFactor = cond (met || exceptional) 10000 missFactor
 
@@ -41,7 +41,7 @@ floorLevel book y aif = levelOf (y .pyf) (floorSum book) aif (y .pppi)
 abbrev pub floorOf : Book → Year → Log → ℤ
 floorOf book y log = floorLevel book y (aifOf (meetsTarget book log (y .number)) (y .exceptional) (book .«miss_factor»))
 
--- ---- the call: "a level above 10^9"
+-- ---- the call. Rule 12.1, 11: no level is above 10^9
 abbrev pub levelFits : ℤ → Bool
 levelFits z = leb (natAbs z) 1000000000
 

@@ -1,5 +1,5 @@
-// The licence book, availability and its target, and the cap and floor levels of a year: document 000, SC2 and SC4;
-// document 01, "Years and the licence book", "The log" and "Levels and revenue".
+// The licence book, availability and its target, and the cap and floor levels of a year:
+// rules, sections 3, 5 and 6 (SC2, SC4).
 mod levelling;
 mod measuring;
 

@@ -1,4 +1,4 @@
--- Money is whole pounds, in the range of 64 bits: document 01, "The work".
+-- Money is whole pounds (rule 1.3), in the range of 64 bits.
 use Prim.Native.Nat.{ℕ, min}
 use lib.IntN.{ℤ, pos, negsuc}
 

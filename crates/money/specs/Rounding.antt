@@ -1,4 +1,4 @@
--- "Divisions in levels, carries and conversions round to nearest, halves away from zero." The rule stands once, behind `upOf`.
+-- Rule 1.5: to nearest, a half away from zero. What becomes of a half stands in `upOf` alone.
 use Prim.Native.Nat.{ℕ, suc, _+_, _*_, _/_, _%_, min}
 use mathlib.Core.Bool.{Bool, cond, _&&_}
 use lib.Dec.{leb, ltb}

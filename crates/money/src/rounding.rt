@@ -1,4 +1,4 @@
-// The rounding rule: document 01, "Divisions in levels, carries and conversions round to nearest, halves away from zero."
+// The rounding rule, 1.5: to nearest, a half away from zero.
 use super::credit;
 use super::debit;
 use super::is_negative;

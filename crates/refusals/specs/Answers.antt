@@ -1,4 +1,4 @@
--- A call answers on every input, and in one way.
+-- A call answers on every input, and in one way. No contract is stated by this; theorems say it of each call.
 use mathlib.Core.Path.{_≡_}
 
 -- one result meets what a call promises, and no other does

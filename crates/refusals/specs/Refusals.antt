@@ -1,5 +1,5 @@
--- Document 01, "Numbers a call can give instead".
-use mathlib.Core.Bool.{Bool, true, false, cond}
+-- The refusals, their numbers and their order: rules 12.1 and 12.2.
+use mathlib.Core.Bool.{Bool, cond}
 use mathlib.Core.List.{List, [], _∷_}
 use Prim.Native.Nat.{ℕ}
 use lib.Dec.{eqb}
@@ -8,7 +8,7 @@ use Rattle.refusals.specs.declared.Refusal.the-variants.{BrokenLog, BadS
 use Rattle.refusals.specs.declared.Answer.{Answer}
 use Rattle.refusals.specs.declared.Answer.the-variants.{Done, Refused}
 
--- the paper's number of each refusal
+-- rule 12.1: the number of each refusal
 abbrev pub refusalNumber : Refusal → ℕ
 refusalNumber BrokenLog = 1
 refusalNumber BadSpan = 2
@@ -30,25 +30,6 @@ abbrev pub answerNumber : Answer → ℕ
 answerNumber Done = 0
 answerNumber (Refused why) = refusalNumber why
 
--- "lowest applicable first. But 8 comes before 1 where both are checked, 12 before 11, and 11 before 10."
-abbrev pub inTurn : List Refusal
-inTurn =
-    BadBook
-    ∷ BrokenLog
-    ∷ BadSpan
-    ∷ BadPower
-    ∷ SharedMinute
-    ∷ FullLog
-    ∷ NoSuchStart
-    ∷ BadStretch
-    ∷ BadYear
-    ∷ BadPeriod
-    ∷ TooLarge
-    ∷ FloorAboveCap
-    ∷ Malformed
-    ∷ NoRoom
-    ∷ []
-
 -- the rows that a call checks: each a refusal, and whether it applies
 abbrev pub Rows : Type 0
 Rows = List (Refusal × Bool)
@@ -61,9 +42,3 @@ firstApplicable (row ∷ rows) = cond (row .1) (refusalNumber (row .0)) (firstAp
 -- no row applies
 abbrev pub accepted : Rows → Bool
 accepted rows = eqb (firstApplicable rows) 0
-
--- the rows stand in the order of the list
-abbrev pub inOrderOf : List Refusal → Rows → Bool
-inOrderOf turns [] = true
-inOrderOf [] (row ∷ rows) = false
-inOrderOf (turn ∷ turns) (row ∷ rows) = cond (eqb (refusalNumber turn) (refusalNumber (row .0))) (inOrderOf turns rows) (inOrderOf turns (row ∷ rows))

@@ -1,4 +1,4 @@
-// Why a call is refused, and the number that it then gives: document 01, "Numbers a call can give instead".
+// Why a call is refused, and the number that it then gives: rule 12.1.
 ghost use mathlib.Core.Path.{_≡_};
 ghost use Rattle.refusals.specs.Refusals.{answerNumber, refusalNumber};
 
@@ -40,7 +40,7 @@ pub enum Answer {
 }
 
 impl Refusal {
-    // The paper's number.
+    // The number of rule 12.1.
     pub fn number(self) -> u8
         ensures { λ n. ⌜ n ≡ refusalNumber self ⌝ }
     {

@@ -1,4 +1,4 @@
--- Document 01, "The yearly return": the table of tags.
+-- The format of the yearly return, as rule 10.2 has it.
 use mathlib.Core.Bool.{Bool, not, _&&_}
 use mathlib.Core.List.{List, [], _∷_, _++_}
 use Prim.Native.Nat.{ℕ, _+_}
@@ -12,23 +12,23 @@ use Rattle.year.specs.Year.{goodLine, lineSlots}
 use Rattle.codec.specs.Format.{Value, num, int, pair, mapped, restricted, Item, tagged, Codec, one, opt, many, both}
 
 -- ---- values
--- 01: "year, 1 byte, 1 to 25"
+-- 01: the year number
 abbrev pub yearValue : Value ℕ
 yearValue = num 1 1 lastYear
 
--- 02: "PPPI, 4 bytes", 5,000 to 50,000
+-- 02: the index
 abbrev pub pppiValue : Value ℕ
 pppiValue = num 4 5000 50000
 
--- 03: "rate, 4 bytes", 1 to 200,000
+-- 03: the rate
 abbrev pub rateValue : Value ℕ
 rateValue = num 4 1 200000
 
--- 04: "AIC, 2 bytes", 0 to 20,000
+-- 04: the cap factor
 abbrev pub aicValue : Value ℕ
 aicValue = num 2 0 20000
 
--- 05: "PYC and PYF, 2 bytes each", 0 to 10,000; "absent means 10,000 for both, and both 10,000 may not be written"
+-- 05: the partial-year factors, and those that a return leaves out, and may not have
 abbrev pub leftOut : ℕ → ℕ × ℕ
 leftOut number = (10000, 10000)
 
@@ -38,7 +38,7 @@ isLeftOut number f = eqb (f .0) (leftOut number .0) && eqb (f .1) (leftOut numbe
 abbrev pub factorsValue : ℕ → Value (ℕ × ℕ)
 factorsValue number = restricted (λ f. not (isLeftOut number f)) (pair (num 2 0 10000) (num 2 0 10000))
 
--- 06: "kind, currency, 8-byte amount"
+-- 06: a line
 abbrev pub toLine : ℕ × (ℕ × ℤ) → Line
 toLine p = record { kind = p .0; currency = p .1 .0; amount = p .1 .1 }
 
@@ -51,7 +51,7 @@ lineLayout = mapped toLine fromLine (pair (num 1 0 255) (pair (num 1 0 255) (int
 abbrev pub lineValue : Value Line
 lineValue = restricted goodLine lineLayout
 
--- 07: "start, end (4 bytes each), MW (2)"
+-- 07: an outage
 abbrev pub toEntry : ℕ × (ℕ × ℕ) → Entry
 toEntry p = record { start = p .0; end = p .1 .0; mw = p .1 .1 }
 
@@ -65,22 +65,22 @@ entryLayout = mapped toEntry fromEntry (pair (num 4 0 4294967295) (pair (num 4 0
 abbrev pub startsBetween : ℕ → ℕ → Entry → Bool
 startsBetween first end e = leb first (e .start) && ltb (e .start) end
 
--- "start in the year, regime end 13,632,480"
+-- rule 10.3: it starts in the return's year
 abbrev pub startsIn : ℕ → Entry → Bool
 startsIn number e = startsBetween (yearStart number) (yearEnd number lastRegimeEnd) e
 
--- "in log order": with those before it, it keeps every rule of the log
+-- rule 10.3: with those before it, it keeps every rule of a log
 abbrev pub mayFollow : ℕ → List Entry → Entry → Bool
 mayFollow number before e = startsIn number e && validEntries lastRegimeEnd (before ++ (e ∷ []))
 
 abbrev pub entryValue : ℕ → List Entry → Value Entry
 entryValue number before = restricted (mayFollow number before) entryLayout
 
--- 08: "1, one byte"
+-- 08: the mark
 abbrev pub markValue : Value ℕ
 markValue = num 1 1 1
 
--- 09: "within-period adjustment, 8 bytes, not 0, magnitude at most 10^9"
+-- 09: the within-period adjustment, which is not 0
 abbrev pub isNone : ℤ → Bool
 isNone z = eqb (natAbs z) 0
 
@@ -101,23 +101,23 @@ entryItem number before = tagged 7 (entryValue number before)
 abbrev pub factors : ℕ → Codec (ℕ × ℕ)
 factors number = opt (tagged 5 (factorsValue number)) (leftOut number) (isLeftOut number)
 
--- "0 to 64, order kept"
+-- the lines
 abbrev pub lines : Codec (List Line)
 lines = many lineItem lineSlots
 
--- "0 to 400"
+-- the outages
 abbrev pub outages : ℕ → Codec (List Entry)
 outages number = many (entryItem number) slots
 
--- "present where an Exceptional Event is marked": 1, or 0 where it is absent
+-- the mark: 1 where it is there, 0 where it is left out
 abbrev pub mark : Codec ℕ
 mark = opt (tagged 8 markValue) 0 (λ n. eqb n 0)
 
--- "absent means 0"
+-- the adjustment: 0 where it is left out
 abbrev pub wpa : Codec ℤ
 wpa = opt (tagged 9 wpaValue) (pos 0) isNone
 
--- ---- "Tags ascend; only 06 and 07 repeat."
+-- ---- the fields in their order
 -- the four required fields
 abbrev pub RequiredParts : Type 0
 RequiredParts = ℕ × (ℕ × (ℕ × ℕ))
@@ -146,7 +146,3 @@ Parts = RequiredParts × BodyParts
 
 unfoldable pub form : Codec Parts
 form = both required (λ h. body (h .0))
-
--- "The longest valid return has 6,077 bytes"
-abbrev pub longest : ℕ
-longest = 6077

@@ -1,4 +1,4 @@
--- What reading and writing a return give: document 01, "The yearly return" and "Numbers a call can give instead".
+-- What reading and writing a return give: rules 10.3 to 10.7, 12.3 and 12.4.
 use mathlib.Core.Bool.{Bool, cond, not, _&&_}
 use mathlib.Core.List.{List, [], _∷_}
 use Prim.Native.Nat.{ℕ}
@@ -28,7 +28,7 @@ yearOf p = record {
   aic = p .0 .1 .1 .1;
   pyc = p .1 .0 .0;
   pyf = p .1 .0 .1;
-  -- "Line slots past the count are zero."
+  -- rule 7.3: the slots past the count are zero
   lines = padded lineSlots zeroLine (p .1 .1 .0);
   «line_count» = length (p .1 .1 .0);
   exceptional = eqb (p .1 .1 .1 .1 .0) 1;
@@ -52,7 +52,7 @@ partsOf y = (
 )
 
 -- ---- reading
--- "At most 8,192 bytes."
+-- rule 10.4: the most bytes that are read
 abbrev pub mostBytes : ℕ
 mostBytes = 8192
 
@@ -60,12 +60,11 @@ mostBytes = 8192
 abbrev pub Reading : Type 0
 Reading = Message.Reading Year
 
--- "Refused at the first byte of the first field" that cannot be taken where it stands, or at the end. "A longer return is
--- refused at place 8,192 before reading."
+-- rules 10.4 and 10.5: read field by field, or refused at a place, at the limit where it is longer
 abbrev pub readingOf : List ℕ → Reading
 readingOf = Message.reading form yearOf mostBytes
 
--- "a refused reading gives a fresh year"
+-- rule 12.3: beside a refusal a fresh year
 abbrev pub yearIn : Reading → Year
 yearIn = Message.valueIn freshYear
 
@@ -83,11 +82,11 @@ abbrev pub refusedAt : ℕ → Return
 refusedAt place = record { answer = Refused Malformed; place = place; year = freshYear }
 
 -- ---- writing
--- 9: no "start outside it" nor "a regime end other than 13,632,480"
+-- rule 12.1, 9: each outage starts in the year, and the log runs to the return's regime end
 abbrev pub logFits : Log → ℕ → Bool
 logFits log number = eqb (log .«regime_end») lastRegimeEnd && all (startsIn number) (logEntries log)
 
--- nor anything of the year but its log out of range
+-- and all of the year but its log is in range
 abbrev pub writable : Year → Bool
 writable y = goodYear y && logFits (y .log) (y .number)
 
@@ -106,6 +105,6 @@ writeRows y room =
 abbrev pub writtenLength : Year → ℕ → ℕ
 writtenLength y room = lengthIn (accepted (writeRows y room)) (returnOf y)
 
--- "Bytes past a written return are untouched", and all of them beside a refusal
+-- rules 10.7 and 12.3: no byte past the return changes, and none beside a refusal
 abbrev pub writtenBuffer : Year → List ℕ → List ℕ
 writtenBuffer y out = bufferIn (accepted (writeRows y (length out))) (returnOf y) out

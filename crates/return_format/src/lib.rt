@@ -1,4 +1,4 @@
-// The yearly return: its limits and tags, and what reading one gives. Document 01, "The yearly return".
+// The yearly return: its limits and tags, and what reading one gives. Rules, section 10.
 use refusals::Answer;
 use refusals::Refusal;
 use year::Year;

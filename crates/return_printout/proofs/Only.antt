@@ -6,7 +6,7 @@ use Rattle.refusals.specs.declared.Refusal.the-variants.{Malformed}
 use Rattle.refusals.specs.Answers.{One}
 use Rattle.text.specs.declared.Text.{Text}
 use Rattle.text.specs.Text.{pushed, textOf}
-use Rattle.codec.specs.Numbers.{Bytes}
+use Rattle.codec.specs.Theorems.{Bytes}
 use Rattle.return_format.specs.Return.{Reading, whole, refused, readingOf, readYear}
 use Rattle.return_printout.specs.Printout.{refusalOf, printedYear, PrintGives}
 use Rattle.return_printout.proofs.YearLines.{refused-given, year-given}

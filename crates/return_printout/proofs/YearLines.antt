@@ -26,7 +26,7 @@ use Rattle.revenue.specs.Revenue.{assessedRevenue, revenueRows, RevenueGives}
 use Rattle.text.specs.declared.Text.{Text}
 use Rattle.text.specs.Text.{pushed, room, textOf}
 use Rattle.text.proofs.Laws.{digits-few, signed-few, pushed-text}
-use Rattle.codec.specs.Numbers.{Bytes}
+use Rattle.codec.specs.Theorems.{Bytes}
 use Rattle.return_format.specs.Return.{Reading, whole, refused, readingOf, isRefused, readRows, readYear, validYear}
 use Rattle.return_round_trip.proofs.Years.{log-valid, year-record, to-end}
 use Rattle.return_round_trip.proofs.RoundTrip.{read-valid}

@@ -1,4 +1,4 @@
--- Document 01, "The yearly return": what the program `daysheet` prints, in ASCII.
+-- What the program `daysheet` prints, in ASCII: rules, section 11.
 use mathlib.Core.Bool.{cond}
 use mathlib.Core.List.{List, [], _∷_, _++_}
 use mathlib.Core.Path.{_≡_}
@@ -33,25 +33,25 @@ revenueWord = 114 ∷ 101 ∷ 118 ∷ 101 ∷ 110 ∷ 117 ∷ 101 ∷ 32 ∷ []
 abbrev pub refusedWord : List ℕ
 refusedWord = 114 ∷ 101 ∷ 102 ∷ 117 ∷ 115 ∷ 101 ∷ 100 ∷ 32 ∷ []
 
--- "Every line printed ends in one newline"
+-- rule 11.3: a word, a figure and a newline
 abbrev pub lineOf : List ℕ → List ℕ → List ℕ
 lineOf word figure = word ++ (figure ++ (10 ∷ []))
 
--- "MW-minutes lost in the year"
+-- rule 11.1: what is lost in the year
 abbrev pub lostInYear : Year → ℕ
 lostInYear y = lostEnergy (yearStart (y .number)) (yearEnd (y .number) lastRegimeEnd) (logEntries (y .log))
 
--- "those after its end"
+-- rule 11.1: what its outages lose after its end
 abbrev pub lostAfter : Year → ℕ
 lostAfter y = lostEnergy (yearEnd (y .number) lastRegimeEnd) lastRegimeEnd (logEntries (y .log))
 
--- "It prints the year; MW-minutes lost in the year; those after its end; assessed revenue."
+-- rule 11.1: the four lines of a year
 unfoldable pub yearLines : ℕ → ℕ → ℕ → ℤ → List ℕ
 yearLines number lost carried pounds =
     lineOf yearWord (decimal number)
     ++ (lineOf lostWord (decimal lost) ++ (lineOf carriedWord (decimal carried) ++ lineOf revenueWord (signedDecimal pounds)))
 
--- "it prints only `refused ` and the number"
+-- rule 11.2: the line of a refusal
 unfoldable pub refusalOf : ℕ → List ℕ
 refusalOf number = lineOf refusedWord (decimal number)
 
@@ -59,7 +59,7 @@ abbrev pub printedYear : Year → List ℕ
 printedYear y =
     cond (accepted (revenueRows y)) (yearLines (y .number) (lostInYear y) (lostAfter y) (assessedRevenue y)) (refusalOf (firstApplicable (revenueRows y)))
 
--- "On a refusal, of the reading or of the revenue"
+-- rule 11.2: the reading is refused, or else the revenue
 unfoldable pub printed : List ℕ → List ℕ
 printed bs = cond (accepted (readRows bs)) (printedYear (readYear bs)) (refusalOf (firstApplicable (readRows bs)))
 

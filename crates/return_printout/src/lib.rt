@@ -1,4 +1,4 @@
-// What `daysheet` prints of a return: document 01, "The yearly return".
+// What `daysheet` prints of a return: rules, section 11.
 use calendar::year_minutes;
 use outage::Log;
 use outage::LostEnergy;

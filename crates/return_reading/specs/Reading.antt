@@ -1,4 +1,4 @@
--- What reading a return promises: document 01, "The yearly return" and "Numbers a call can give instead".
+-- What reading a return promises: rules 10.5 and 12.4.
 use mathlib.Core.List.{List}
 use mathlib.Core.Path.{_≡_}
 use Prim.Native.Nat.{ℕ}

@@ -1,4 +1,4 @@
-// Reads a yearly return from bytes: document 01, "The yearly return".
+// Reads a yearly return from bytes: rules, section 10.
 mod fields;
 mod rows;
 

@@ -10,7 +10,7 @@ use Rattle.refusals.proofs.Laws.{last-row}
 use Rattle.refusals.specs.declared.Refusal.the-variants.{Malformed}
 use Rattle.outage.specs.Log.{validLog}
 use Rattle.year.specs.declared.Year.{Year}
-use Rattle.codec.specs.Numbers.{Bytes}
+use Rattle.codec.specs.Theorems.{Bytes}
 use Rattle.return_format.specs.Return.{isRefused, readingOf, readRows, readYear, writable, validYear, returnOf}
 use Rattle.return_writing.specs.declared.Written.{Written}
 use Rattle.return_writing.specs.declared.Written.the-variants.{Refused}

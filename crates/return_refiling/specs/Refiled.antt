@@ -1,4 +1,4 @@
--- "A return that is read and written again gives its own bytes": demand 2, as a call.
+-- A return that is read and written again: rule 10.6 as a call.
 use mathlib.Core.List.{List, [], _∷_}
 use mathlib.Core.Path.{_≡_}
 use Prim.Native.Nat.{ℕ}

@@ -17,8 +17,10 @@ use Rattle.entries.specs.declared.Entry.{Entry}
 use Rattle.outage.specs.Log.{logEntries}
 use Rattle.year.specs.declared.Line.{Line}
 use Rattle.year.specs.declared.Year.{Year}
-use Rattle.codec.specs.Numbers.{Bytes, spelled, bytesOf}
-use Rattle.codec.specs.Fields.{head, isWhole, joined}
+use Rattle.codec.specs.Numbers.{spelled, bytesOf}
+use Rattle.codec.specs.Theorems.{Bytes}
+use Rattle.codec.specs.Fields.{head}
+use Rattle.codec.specs.Theorems.{isWhole, joined}
 use Rattle.codec.specs.Format.{fieldOf, unless, texts}
 use Rattle.codec.proofs.Fields.{joined-append, same-fields}
 use Rattle.return_format.specs.Form.{yearValue, pppiValue, rateValue, aicValue, isLeftOut, markValue, isNone, lineItem, entryItem, body, form}
@@ -67,7 +69,7 @@ flat y =
     (mark-present (y .exceptional))
     (unless-present zero (wpaField (y .wpa))))
 
--- ---- "Tags ascend; only 06 and 07 repeat."
+-- ---- rule 10.1: in which order fields stand
 -- a tag of the table, from k on
 abbrev from : ℕ → ℕ → Bool
 from k t = leb k t && leb t 9

@@ -11,7 +11,7 @@ use lib.ListN.{length}
 use Rattle.refusals.specs.Refusals.{firstApplicable}
 use Rattle.refusals.specs.declared.Refusal.the-variants.{Malformed}
 use Rattle.year.specs.declared.Year.{Year}
-use Rattle.codec.specs.Numbers.{Bytes}
+use Rattle.codec.specs.Theorems.{Bytes}
 use Rattle.codec.specs.Format.{malformed}
 use Rattle.codec.proofs.Message as Message
 use Rattle.return_format.specs.Form.{form}
@@ -44,7 +44,7 @@ refused-malformed bs = Message.refused-malformed form yearOf mostBytes bs form-n
 pub refusal-place : (bs : List ℕ) (why place : ℕ) → Bytes bs → length bs ≤ mostBytes → readingOf bs ≡ refused why place → RefusalPlace bs place
 refusal-place = Message.refusal-place form-lawful return-messages form-placed mostBytes
 
--- "A longer return is refused at place 8,192 before reading."
+-- rule 10.4: a longer return
 pub longer-refused : (bs : List ℕ) → mostBytes < length bs → readingOf bs ≡ refused malformed mostBytes
 longer-refused bs h = Message.longer form yearOf mostBytes bs h
 

@@ -14,13 +14,14 @@ use Rattle.outage.specs.Log.{slots, lastRegimeEnd}
 use Rattle.outage.proofs.LogHolding.{log-holding-slots}
 use Rattle.year.specs.declared.Year.{Year}
 use Rattle.year.specs.Year.{lineSlots, zeroLine}
-use Rattle.codec.specs.Numbers.{Bytes}
+use Rattle.codec.specs.Theorems.{Bytes}
 use Rattle.codec.specs.Format.{fieldOf, unless, texts}
-use Rattle.codec.specs.Message.{Messages}
+use Rattle.codec.specs.Theorems.{Messages}
 use Rattle.codec.proofs.Message as Message
 use Rattle.codec.proofs.Values.{num-laws}
 use Rattle.codec.proofs.Lengths.{field-length, unless-length, texts-length, sizes-most}
-use Rattle.return_format.specs.Form.{yearValue, pppiValue, rateValue, aicValue, isLeftOut, factorsValue, markValue, isNone, wpaValue, lineItem, entryItem, entryBytes, longest, Parts, form}
+use Rattle.return_format.specs.Form.{yearValue, pppiValue, rateValue, aicValue, isLeftOut, factorsValue, markValue, isNone, wpaValue, lineItem, entryItem, entryBytes, Parts, form}
+use Rattle.return_round_trip.specs.Flat.{longest}
 use Rattle.return_format.specs.Return.{yearOf, partsOf, mostBytes, Reading, whole, refused, readingOf, isRefused, yearIn, readRows, readYear, validYear, returnOf}
 use Rattle.return_round_trip.specs.Places.{IsReturnOf}
 use Rattle.return_round_trip.proofs.Lawful.{line-item, entry-item, factors-laws, wpa-laws, form-lawful}

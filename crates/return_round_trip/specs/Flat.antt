@@ -1,4 +1,4 @@
--- Document 01, "The yearly return", once more and flat: the fields of a year's return in order, each by its bytes. No contract is stated
+-- Rules 10.1 and 10.2 once more and flat: the fields of a year's return in order, each by its bytes. No contract is stated
 -- by these definitions; a theorem says that they give what the format does.
 use mathlib.Core.Bool.{Bool, true, cond, not, _&&_, _||_}
 use mathlib.Core.List.{List, [], _∷_, _++_, map}
@@ -15,24 +15,24 @@ use Rattle.year.specs.declared.Line.{Line}
 use Rattle.year.specs.declared.Year.{Year}
 use Rattle.codec.specs.Numbers.{bytesOf}
 
--- ---- "Fields of one tag byte, two length bytes (high first), value; numbers high byte first, signed ones two's complement"
--- 05: "PYC and PYF, 2 bytes each"
+-- ---- rule 10.1: tag, length and value of each field, byte by byte
+-- 05: the partial-year factors
 unfoldable pub factorsField : ℕ → ℕ → List ℕ
 factorsField pyc pyf = 5 ∷ 0 ∷ 4 ∷ (bytesOf 2 pyc ++ bytesOf 2 pyf)
 
--- 06: "kind, currency, 8-byte amount"
+-- 06: a line
 unfoldable pub lineField : Line → List ℕ
 lineField l = 6 ∷ 0 ∷ 10 ∷ (bytesOf 1 (l .kind) ++ (bytesOf 1 (l .currency) ++ bytesOf 8 (ofZ w64 (l .amount))))
 
--- 07: "start, end (4 bytes each), MW (2)"
+-- 07: an outage
 unfoldable pub outageField : Entry → List ℕ
 outageField e = 7 ∷ 0 ∷ 10 ∷ (bytesOf 4 (e .start) ++ (bytesOf 4 (e .end) ++ bytesOf 2 (e .mw)))
 
--- 08: "1, one byte"
+-- 08: the mark
 unfoldable pub markField : List ℕ
 markField = 8 ∷ 0 ∷ 1 ∷ 1 ∷ []
 
--- 09: "within-period adjustment, 8 bytes"
+-- 09: the within-period adjustment
 unfoldable pub wpaField : ℤ → List ℕ
 wpaField w = 9 ∷ 0 ∷ 8 ∷ bytesOf 8 (ofZ w64 w)
 
@@ -40,7 +40,7 @@ wpaField w = 9 ∷ 0 ∷ 8 ∷ bytesOf 8 (ofZ w64 w)
 abbrev pub present : Bool → List ℕ → List (List ℕ)
 present test field = cond test (field ∷ []) []
 
--- "both 10,000 may not be written"; the lines and outages held, in their order; the adjustment "not 0"
+-- rule 10.2: two fields that are left out for one value, and the lines and outages in their order
 unfoldable pub fieldsOf : Year → List (List ℕ)
 fieldsOf y =
     (1 ∷ 0 ∷ 1 ∷ bytesOf 1 (y .number))
@@ -53,7 +53,7 @@ fieldsOf y =
     ++ (present (y .exceptional) markField
     ++ present (not (eqb (natAbs (y .wpa)) 0)) (wpaField (y .wpa))))))
 
--- ---- "Tags ascend; only 06 and 07 repeat."
+-- ---- rule 10.1: in which order fields stand
 -- the first byte of a field
 abbrev pub tagOf : List ℕ → ℕ
 tagOf [] = 0
@@ -65,7 +65,11 @@ mayPrecede s t = ltb s t || (eqb s t && (eqb s 6 || eqb s 7))
 
 pub record Ordered (fields : List (List ℕ)) : Type 0 where
   pub ascend : pairwise mayPrecede (map tagOf fields) ≡ true
-  -- 01 to 04: "required"
+  -- 01 to 04 are there
   pub required : take 4 (map tagOf fields) ≡ 1 ∷ 2 ∷ 3 ∷ 4 ∷ []
   -- no tag but those of the table
   pub known : all (λ t. leb t 9) (map tagOf fields) ≡ true
+
+-- rule 10.6: the bytes of the longest valid return
+abbrev pub longest : ℕ
+longest = 6077

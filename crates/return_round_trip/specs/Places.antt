@@ -1,4 +1,4 @@
--- What it is for bytes to be a return, and where a refusal stands: document 01, "The yearly return". No contract is stated by these
+-- What it is for bytes to be a return, and the place of a refusal: rules 10.5 and 10.6. No contract is stated by these
 -- definitions; theorems say by them what the contracts come to.
 use mathlib.Core.Bool.{true}
 use mathlib.Core.List.{List}
@@ -8,7 +8,7 @@ use lib.ListN.{length}
 use Rattle.outage.specs.Log.{slots}
 use Rattle.year.specs.declared.Year.{Year}
 use Rattle.year.specs.Year.{lineSlots}
-use Rattle.codec.specs.Message as Message
+use Rattle.codec.specs.Theorems as messages
 use Rattle.return_format.specs.Return.{validYear, returnOf}
 
 -- bytes are the return of a valid year, which has its 64 line slots and 400 entry slots
@@ -24,7 +24,7 @@ pub record IsReturn (bs : List ℕ) : Type 0 where
   pub return-of : IsReturnOf year bs
 
 -- ---- the place of a refusal
--- "Refused at the first byte of the first field" that cannot be taken where it stands, or at the end: the bytes before the place are
+-- rule 10.5: the first field that cannot be taken where it stands, or the end. The bytes before the place are
 -- whole fields that begin some valid return, and no valid return goes on there with the field, or the end, that was found
 abbrev pub RefusalPlace : List ℕ → ℕ → Type 0
-RefusalPlace = Message.RefusalPlace IsReturnOf
+RefusalPlace = messages.RefusalPlace IsReturnOf

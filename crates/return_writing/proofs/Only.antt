@@ -5,7 +5,8 @@ use mathlib.Core.Bool.{true, cond}
 use mathlib.Core.List.{List}
 use Prim.Native.Nat.{ℕ}
 use lib.ListN.{length}
-use Rattle.refusals.specs.Refusals.{Rows, firstApplicable, accepted, inTurn, inOrderOf}
+use Rattle.refusals.specs.Refusals.{Rows, firstApplicable, accepted}
+use Rattle.refusals.specs.Order.{inTurn, inOrderOf}
 use Rattle.refusals.specs.Answers.{One}
 use Rattle.refusals.proofs.Cases.{Refusing, Answers, same-case, one-case}
 use Rattle.year.specs.declared.Year.{Year}

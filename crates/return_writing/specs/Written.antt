@@ -1,4 +1,4 @@
--- The number and the length of each case of the answer: document 01, "Numbers a call can give instead".
+-- What writing a return promises: rules 10.7, 12.3 and 12.4.
 use mathlib.Core.Bool.{Bool, cond, not}
 use mathlib.Core.List.{List, [], _∷_}
 use mathlib.Core.Path.{_≡_}

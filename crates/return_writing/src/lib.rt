@@ -1,4 +1,4 @@
-// Writes a yearly return into a lent buffer: document 01, "The yearly return".
+// Writes a yearly return into a lent buffer: rules, section 10.
 mod checking;
 mod fields;
 mod rows;

@@ -16,7 +16,8 @@ use Rattle.money.proofs.Pounds.{abs-add, saturated-small}
 use Rattle.year.specs.declared.Line.{Line}
 use Rattle.year.specs.Year.{goodLine, zeroLine}
 use Rattle.year.proofs.Says.{line-says, LinesSay}
-use Rattle.revenue.specs.Revenue.{poundsOf, atLeastZero, countedAs, countedOf, summedOf, NAR}
+use Rattle.revenue.specs.Revenue.{poundsOf, atLeastZero, countedAs, NAR}
+use Rattle.revenue.specs.Theorems.{countedOf, summedOf}
 use Rattle.revenue.proofs.Terms.{total-is}
 
 -- ---- a line below the count of good lines has a small amount

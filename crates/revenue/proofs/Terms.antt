@@ -11,7 +11,8 @@ use Rattle.lists.proofs.Tests.{and-left, and-right}
 use Rattle.year.specs.declared.Line.{Line}
 use Rattle.year.specs.Year.{goodLine}
 use Rattle.year.proofs.Says.{line-says}
-use Rattle.revenue.specs.Revenue.{poundsOf, sumOfKind, atLeastZero, countedAs, countedOf, summedOf, NAR}
+use Rattle.revenue.specs.Revenue.{poundsOf, sumOfKind, atLeastZero, countedAs, NAR}
+use Rattle.revenue.specs.Theorems.{countedOf, summedOf}
 
 -- ---- sums
 -- two summands change places

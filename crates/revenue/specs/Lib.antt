@@ -1,2 +1,3 @@
 -- Assessed revenue.
 pub mod Revenue
+pub mod Theorems

@@ -1,4 +1,4 @@
--- Assessed revenue: document 000, SC5 3, 6 to 9, 11, 12 and SC7 27; document 01, "Levels and revenue".
+-- Assessed revenue: rules 7.4 to 7.6 (SC5 3, 6 to 9, 11, 12; SC7 27).
 use mathlib.Core.Bool.{Bool, cond, not, _||_}
 use mathlib.Core.List.{List, [], _∷_}
 use mathlib.Core.Path.{_≡_}
@@ -16,7 +16,7 @@ use Rattle.year.specs.Year.{goodYear}
 use Rattle.revenue.specs.declared.Revenue.{Revenue}
 use Rattle.revenue.specs.declared.Revenue.the-variants.{Pounds, Refused}
 
--- ---- SC5 7, 9, 12: "Each euro line is converted and rounded by itself"
+-- ---- rule 7.5: each euro line by itself (SC5 7, 9, 12)
 unfoldable pub poundsOf : ℕ → Line → ℤ
 poundsOf rate l = cond (eqb (l .currency) 0) (l .amount) (roundZ (l .amount *ℤ pos rate) 100000)
 
@@ -25,7 +25,7 @@ unfoldable pub sumOfKind : ℕ → ℕ → List Line → ℤ
 sumOfKind kind rate [] = pos 0
 sumOfKind kind rate (l ∷ ls) = cond (eqb (l .kind) kind) (poundsOf rate l) (pos 0) +ℤ sumOfKind kind rate ls
 
--- "the greater of that and 0"
+-- rule 7.4: a sum that is lifted to 0 where it is below
 unfoldable pub atLeastZero : ℤ → ℤ
 atLeastZero z = cond (ltZ z (pos 0)) (pos 0) z
 
@@ -35,7 +35,7 @@ module _ (rate : ℕ) (lines : List Line) where
   abbrev pub CAR : ℤ
   CAR = sumOfKind 1 rate lines
 
-  -- capacity market: "its lines summed, then the greater of that and 0"
+  -- capacity market, lifted as a sum
   abbrev pub CMR : ℤ
   CMR = atLeastZero (sumOfKind 2 rate lines)
 
@@ -80,7 +80,7 @@ module _ (rate : ℕ) (lines : List Line) where
   abbrev pub MRC : ℤ
   MRC = EAC +ℤ FC +ℤ TCC
 
-  -- SC5 3 and SC7 27: "Assessed revenue is the total."
+  -- rule 7.6: the total (SC5 3, SC7 27)
   abbrev pub NAR : ℤ
   NAR = GCR -ℤ MRC -ℤ IAT
 
@@ -112,11 +112,3 @@ RevenueGives y r = (revenueNumber r ≡ firstApplicable (revenueRows y)) × (rev
 unfoldable pub countedAs : Bool → ℕ → ℤ → ℤ
 countedAs cmr kind amount =
     cond (eqb kind 2) (cond cmr amount (pos 0)) (cond cmr (pos 0) (cond (ltb kind 7 || eqb kind 10) amount (negℤ amount)))
-
--- what a line counts
-unfoldable pub countedOf : Bool → ℕ → Line → ℤ
-countedOf cmr rate l = countedAs cmr (l .kind) (poundsOf rate l)
-
-unfoldable pub summedOf : Bool → ℕ → List Line → ℤ
-summedOf cmr rate [] = pos 0
-summedOf cmr rate (l ∷ ls) = countedOf cmr rate l +ℤ summedOf cmr rate ls

@@ -1,4 +1,4 @@
-// Assessed revenue of a year: document 000, SC5 and SC7; document 01, "Levels and revenue".
+// Assessed revenue of a year: rules 7.4 to 7.6 (SC5, SC7).
 use money::is_negative;
 use money::minus;
 use money::plus;

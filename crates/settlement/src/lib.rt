@@ -1,4 +1,4 @@
-// Settlement and reconciliation with the system operator: document 001, equations 1 and 2; document 01, "Settlement".
+// Settlement and reconciliation with the system operator: rules, section 9 (methodology, equations 1 and 2).
 mod medians;
 mod paying;
 mod table;

@@ -1,4 +1,4 @@
-// The growth table: powers of 1.0388 by hundredths. Document 01, "The growth table has 500 entries."
+// The growth table: powers of 1.0388 by hundredths. Rule 9.3.
 use refusals::Refusal;
 ghost use mathlib.Core.Path.{_≡_};
 ghost use Prim.Native.Nat.{_<_};

@@ -1,4 +1,4 @@
--- Text in ASCII, at most 64 bytes: document 01, "The yearly return", "numbers are decimal, a negative one with a leading minus".
+-- Text in ASCII, at most 64 bytes, and numbers in it: rule 11.3.
 use mathlib.Core.Bool.{cond}
 use mathlib.Core.List.{List, [], _∷_, _++_}
 use Prim.Native.Nat.{ℕ, zero, suc, _+_, _-_, _/_, _%_}

@@ -1,5 +1,5 @@
 // Text by value, in ASCII: at most 64 bytes, and how many there are. Numbers are decimal, a negative one with a leading
-// minus: document 01, "The yearly return".
+// minus: rule 11.3.
 use money::is_negative;
 use money::magnitude;
 ghost use mathlib.Core.Path.{_≡_};

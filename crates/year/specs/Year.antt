@@ -1,4 +1,4 @@
--- Document 01, "Years and the licence book" (the fresh year) and "Levels and revenue" (ranges and lines).
+-- A year, its ranges and its lines: rules 7.1 to 7.4.
 use mathlib.Core.Bool.{Bool, false, not, _&&_, _||_}
 use mathlib.Core.List.{List, [], _∷_}
 use mathlib.Core.Path.{_≡_}
@@ -16,14 +16,14 @@ use Rattle.outage.specs.Log.{logHolding, lastRegimeEnd}
 use Rattle.year.specs.declared.Line.{Line}
 use Rattle.year.specs.declared.Year.{Year}
 
--- "Line slots past the count are zero."
+-- rule 7.3: a free line slot
 abbrev pub zeroLine : Line
 zeroLine = record { kind = 0; currency = 0; amount = pos 0 }
 
 abbrev pub lineSlots : ℕ
 lineSlots = 64
 
--- "The fresh year is year 1, PPPI and factors 10,000, rate 100,000, an empty log to 13,632,480, no lines, no mark, W 0."
+-- rule 7.2: the fresh year
 abbrev pub freshYear : Year
 freshYear = record {
   number = 1;
@@ -40,28 +40,28 @@ freshYear = record {
 }
 
 -- ---- ranges
--- "PPPI 5,000 to 50,000"
+-- rule 7.1: the index
 abbrev pub goodPppi : ℕ → Bool
 goodPppi pppi = leb 5000 pppi && leb pppi 50000
 
--- "the rate is pounds per euro in hundred-thousandths, 1 to 200,000"
+-- rule 7.1: the rate
 abbrev pub goodRate : ℕ → Bool
 goodRate rate = leb 1 rate && leb rate 200000
 
--- "AIC 0 to 20,000", "PYC, PYF 0 to 10,000"
+-- rule 7.1: year number, index, rate and the three factors
 abbrev pub goodFactors : ℕ → ℕ → ℕ → ℕ → ℕ → ℕ → Bool
 goodFactors number pppi rate aic pyc pyf =
     goodYearNumber number && (goodPppi pppi && (goodRate rate && (leb aic 20000 && (leb pyc 10000 && leb pyf 10000))))
 
--- "an amount of magnitude at most 10^9"
+-- rule 7.3: a line's amount
 abbrev pub goodLineAmount : ℤ → Bool
 goodLineAmount z = leb (natAbs z) 1000000000
 
--- and so has a within-period adjustment
+-- rule 7.1: the within-period adjustment
 abbrev pub goodWpa : ℤ → Bool
 goodWpa z = leb (natAbs z) 1000000000
 
--- the table of kinds: 1, 3, 4, 5 and 6 are not negative; 2 and 7 to 11 have either sign
+-- rule 7.4: kinds of either sign
 abbrev pub eitherSign : ℕ → Bool
 eitherSign kind = eqb kind 2 || leb 7 kind
 
@@ -72,7 +72,7 @@ goodLine l =
 abbrev pub isZeroLine : Line → Bool
 isZeroLine l = eqb (l .kind) 0 && (eqb (l .currency) 0 && eqb (natAbs (l .amount)) 0)
 
--- "at most 64 lines"
+-- rules 7.1 and 7.3: the lines that are counted, and the slots past them
 abbrev pub goodLines : List Line → ℕ → Bool
 goodLines lines count = leb count lineSlots && (all goodLine (take count lines) && all isZeroLine (drop count lines))
 

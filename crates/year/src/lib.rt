@@ -1,5 +1,5 @@
 // A Relevant Year as it is entered: index, rate, factors, revenue lines, mark, within-period adjustment and log.
-// Document 01, "Years and the licence book" and "Levels and revenue".
+// Rules, section 7.
 mod checking;
 
 pub use checking::check_year;

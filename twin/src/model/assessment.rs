@@ -1,4 +1,4 @@
-//! The five-year assessment (01, "Assessment").
+//! The five-year assessment (rules, section 8).
 
 use super::book::Book;
 use super::levels::{check_book_and_log, levels};

@@ -1,4 +1,4 @@
-//! The licence book (01, "Years and the licence book").
+//! The licence book (rules, section 3).
 
 use super::log::{regime_end_in_range, LAST_REGIME_END};
 use super::AMOUNT_LIMIT;

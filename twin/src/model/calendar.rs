@@ -55,7 +55,7 @@ pub fn date_after_1900(days: i128) -> (i128, i128, i128) {
     (year, month, left + 1)
 }
 
-/// 31 January 2019, the day of minute 0 (01, "The work").
+/// 31 January 2019, the day of minute 0 (rule 1.4).
 fn first_day() -> i128 {
     days_since_1900(2019, 1, 31).unwrap()
 }
@@ -73,7 +73,7 @@ pub fn date_of_minute(minute: i128) -> (i128, i128, i128, i128, i128) {
 }
 
 /// A date's spreadsheet day number; 61 is 1 March 1900, and earlier dates
-/// have none (01, "Settlement").
+/// have none (rule 9.1).
 pub fn day_number(year: i128, month: i128, day: i128) -> Option<i128> {
     let since_march = days_since_1900(year, month, day)? - days_since_1900(1900, 3, 1)?;
     if since_march < 0 {
@@ -83,7 +83,7 @@ pub fn day_number(year: i128, month: i128, day: i128) -> Option<i128> {
     }
 }
 
-/// First minute of a Relevant Year, 1 to 25 (01, "Years and the licence book").
+/// First minute of a Relevant Year, 1 to 25 (rule 2.1).
 fn first_minute(number: i128) -> i128 {
     if number == 1 {
         0

@@ -1,4 +1,4 @@
-//! The text that `daysheet` prints (01, "The yearly return").
+//! The text that `daysheet` prints (rules, section 11).
 
 use super::calendar::year_minutes;
 use super::log::LAST_REGIME_END;

@@ -1,4 +1,4 @@
-//! The figures of document 01, "Figures on both sides".
+//! The figures of the rules, section 13.
 
 use super::assessment::{assess, carry, Assessment, Row};
 use super::book::Book;

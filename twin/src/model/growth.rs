@@ -1,4 +1,4 @@
-//! The growth table (01, "Settlement").
+//! The growth table (rule 9.3).
 
 use std::sync::OnceLock;
 

@@ -1,5 +1,4 @@
-//! Availability, the target, cap and floor (01, "The log" and "Levels and
-//! revenue").
+//! Availability, the target, cap and floor (rules, sections 5 and 6).
 
 use super::book::Book;
 use super::calendar::year_minutes;

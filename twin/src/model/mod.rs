@@ -1,8 +1,8 @@
-//! A model of document 01, "The scope of work and its rules".
+//! A model of docs/RULES.md.
 //!
 //! Amounts, minutes and energies are worked out in `i128`, wide enough for
 //! anything that the records can hold. A call that can be refused gives
-//! `Err` with the refusal's number (01, "Numbers a call can give instead").
+//! `Err` with the refusal's number (rule 12.1).
 
 pub mod assessment;
 pub mod big;

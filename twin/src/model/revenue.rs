@@ -1,4 +1,4 @@
-//! Assessed revenue (01, "Levels and revenue").
+//! Assessed revenue (rules 7.4 to 7.6).
 
 use super::rounding::nearest;
 use super::year::{Line, Year, EURO};

@@ -1,4 +1,4 @@
-//! Rounding (01, "The work").
+//! Rounding (rule 1.5).
 
 /// To the nearest whole number, halves away from zero.
 pub fn nearest(numerator: i128, denominator: i128) -> i128 {

@@ -1,4 +1,4 @@
-//! Settlement and reconciliation (01, "Settlement").
+//! Settlement and reconciliation (rules, section 9).
 
 use super::growth::growth;
 use super::rounding::nearest;

@@ -1,4 +1,4 @@
-//! A year and its revenue lines (01, "Levels and revenue").
+//! A year and its revenue lines (rules 7.1 to 7.3).
 
 use super::log::Log;
 use super::AMOUNT_LIMIT;

@@ -2,7 +2,7 @@ use mathlib.Core.Path.{_≡_, _∙_, ap, sym}
 use mathlib.Core.List.{[]}
 use Rattle.refusals.specs.Refusals.{answerNumber, firstApplicable}
 use Rattle.text.specs.Text.{pushed, textOf}
-use Rattle.codec.specs.Numbers.{Bytes}
+use Rattle.codec.specs.Theorems.{Bytes}
 use Rattle.year.specs.declared.Year.{Year}
 use Rattle.return_format.specs.Return.{readRows, validYear}
 use Rattle.return_round_trip.proofs.RoundTrip.{read-valid}

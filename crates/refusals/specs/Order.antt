@@ -1,0 +1,32 @@
+-- The one order of refusals: rule 12.2. No contract is stated by it; theorems say that the rows of each call stand in it.
+use mathlib.Core.Bool.{Bool, true, false, cond}
+use mathlib.Core.List.{List, [], _∷_}
+use lib.Dec.{eqb}
+use Rattle.refusals.specs.Refusals.{Rows, refusalNumber}
+use Rattle.refusals.specs.declared.Refusal.{Refusal}
+use Rattle.refusals.specs.declared.Refusal.the-variants.{BrokenLog, BadSpan, BadPower, SharedMinute, FullLog, NoSuchStart, BadStretch, BadBook, BadYear, FloorAboveCap, TooLarge, BadPeriod, Malformed, NoRoom}
+
+-- rule 12.2: the order in which they are looked for
+abbrev pub inTurn : List Refusal
+inTurn =
+    BadBook
+    ∷ BrokenLog
+    ∷ BadSpan
+    ∷ BadPower
+    ∷ SharedMinute
+    ∷ FullLog
+    ∷ NoSuchStart
+    ∷ BadStretch
+    ∷ BadYear
+    ∷ BadPeriod
+    ∷ TooLarge
+    ∷ FloorAboveCap
+    ∷ Malformed
+    ∷ NoRoom
+    ∷ []
+
+-- the rows stand in the order of the list
+abbrev pub inOrderOf : List Refusal → Rows → Bool
+inOrderOf turns [] = true
+inOrderOf [] (row ∷ rows) = false
+inOrderOf (turn ∷ turns) (row ∷ rows) = cond (eqb (refusalNumber turn) (refusalNumber (row .0))) (inOrderOf turns rows) (inOrderOf turns (row ∷ rows))
