@@ -148,7 +148,7 @@ fn target_of(b: Book, number: u8) -> u32
     Book::TARGET
 }
 
-// An availability held against the target of a year.
+// An availability against the target of a year.
 pub(crate) fn tested(book: Book, number: u8, available: Availability) -> Target
     ensures { λ r. ⌜ r ≡ testedOf book number available ⌝ }
 {

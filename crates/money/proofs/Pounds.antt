@@ -1,4 +1,4 @@
--- Magnitudes, what fits 64 bits, and what is held to it. Assumes nothing.
+-- Magnitudes, what fits 64 bits, and what saturates. Assumes nothing.
 use mathlib.Core.Path.{_≡_, refl, sym, ap, _∙_}
 use mathlib.Core.Bool.{Bool, true, false, not, cond}
 use mathlib.Core.Logic.{⊎-elim}
@@ -54,17 +54,17 @@ pub nonNeg-is : (z : ℤ) → nonNeg z ≡ not (ltZ z (pos 0))
 nonNeg-is (pos n) = rw (le-ltb n 0 (omega arith))
 nonNeg-is (negsuc n) = refl
 
--- ---- held to what fits
--- a number in the range of 64 bits is held as it is
+-- ---- what does not fit saturates
+-- a number in the range of 64 bits stays as it is
 pub saturated-fits : (z : ℤ) → mag z < 2 ^ 63 → saturated z ≡ z
 saturated-fits (pos n) h = ap pos (min-eq-left (omega arith))
 saturated-fits (negsuc n) h = ap negsuc (min-eq-left (omega arith))
 
--- what is read back of it is what is held
+-- what is read back of it is the saturated number
 pub saturated-wire : (z : ℤ) → mag z < 2 ^ 63 → toZ w64 (ofZ w64 z) ≡ saturated z
 saturated-wire z h = wire z h ∙ sym (saturated-fits z h)
 
--- a number of magnitude below 2^63 is held as it is
+-- a number of magnitude below 2^63 stays as it is
 pub saturated-small : (z : ℤ) → natAbs z < 2 ^ 63 → saturated z ≡ z
 saturated-small z h = saturated-fits z (omega (arith, mag-le z))
 
@@ -78,7 +78,7 @@ same-side m n limit f g =
     by : limit < m → limit < n
     by h = ⊎-elim (λ (k : n ≤ limit). let l = g k in absurd (omega arith)) (λ (k : limit < n). k) (le-or-lt n limit)
 
--- holding a number to what fits does not change whether its magnitude is within a small limit
+-- saturating a number does not change whether its magnitude is within a small limit
 pub saturated-within : (z : ℤ) (limit : ℕ) → limit < 2 ^ 63 - 1 → leb (natAbs (saturated z)) limit ≡ leb (natAbs z) limit
 saturated-within (pos n) limit h = same-side (min n mostPounds) n limit (λ k. omega arith) (λ k. omega arith)
 saturated-within (negsuc n) limit h = same-side (suc (min n mostPounds)) (suc n) limit (λ k. omega arith) (λ k. omega arith)

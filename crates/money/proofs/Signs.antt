@@ -31,7 +31,7 @@ pub turn-mag : (z : ℤ) → mag (negsuc 0 -ℤ z) ≡ mag z
 turn-mag (pos n) = ap mag (from-pos n)
 turn-mag (negsuc n) = ap mag (from-neg n)
 
--- it is held to what fits as the number is
+-- it saturates as the number does
 pub reflected-saturated : (z : ℤ) → negsuc 0 -ℤ saturated z ≡ saturated (negsuc 0 -ℤ z)
 reflected-saturated (pos n) = from-pos (min n mostPounds) ∙ sym (ap saturated (from-pos n))
 reflected-saturated (negsuc n) = from-neg (min n mostPounds) ∙ sym (ap saturated (from-neg n))

@@ -10,7 +10,7 @@ mostPounds = 9223372036854775807
 abbrev pub mostWhole : ℕ
 mostWhole = 18446744073709551615
 
--- held to what fits: the number itself, or the end of the range that it lies past
+-- saturated: the number itself, or the end of the range that it lies past
 abbrev pub saturated : ℤ → ℤ
 saturated (pos n) = pos (min n mostPounds)
 saturated (negsuc n) = negsuc (min n mostPounds)

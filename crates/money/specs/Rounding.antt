@@ -13,7 +13,7 @@ upOf q rest d = cond (leb d (2 * rest)) 1 0
 abbrev pub isRest : ℕ → ℕ → Bool
 isRest rest divisor = ltb rest divisor && leb divisor 1000000000000
 
--- the rule on a quotient, a rest and a divisor: the quotient with what the rest adds, held to what fits 64 bits; else 0
+-- the rule on a quotient, a rest and a divisor: the quotient with what the rest adds, saturated at 64 bits; else 0
 unfoldable pub roundedOf : ℕ → ℕ → ℕ → ℕ
 roundedOf quotient rest divisor = cond (isRest rest divisor) (min (quotient + upOf quotient rest divisor) mostWhole) 0
 

@@ -1,5 +1,5 @@
 // Signed whole pounds, in the full range of an i64: the few functions on signed numbers that all others are made of.
-// Each answers on every input.
+// Each answers on every input. What does not fit saturates: the end of the range stands for it.
 mod rounding;
 
 pub use rounding::rounded;
@@ -13,7 +13,7 @@ ghost use Rattle.money.specs.Pounds.{saturated};
 // The most that fits an i64.
 const MOST: u64 = 9_223_372_036_854_775_807;
 
-// Minus one less z. It turns the range of an i64 over onto itself, and so turns a sum into a difference.
+// Minus one less z: the range of an i64 reflected onto itself, which makes a difference of a sum.
 fn reflected(z: i64) -> i64
     ensures { λ r. ⌜ r ≡ negsuc 0 -ℤ z ⌝ }
 {
@@ -50,7 +50,7 @@ pub fn within(z: i64, limit: u64) -> bool
     magnitude(z) <= limit
 }
 
-// n pounds to the good, held to what fits.
+// n pounds to the good, saturated.
 pub fn credit(n: u64) -> i64
     ensures { λ r. ⌜ r ≡ saturated (pos n) ⌝ }
 {
@@ -60,14 +60,14 @@ pub fn credit(n: u64) -> i64
     n as i64
 }
 
-// n pounds and one to the bad, held to what fits.
+// n pounds and one to the bad, saturated.
 fn below_zero(n: u64) -> i64
     ensures { λ r. ⌜ r ≡ saturated (negsuc n) ⌝ }
 {
     reflected(credit(n))
 }
 
-// n pounds to the bad, held to what fits.
+// n pounds to the bad, saturated.
 pub fn debit(n: u64) -> i64
     ensures { λ r. ⌜ r ≡ saturated (negℤ (pos n)) ⌝ }
 {
@@ -77,7 +77,7 @@ pub fn debit(n: u64) -> i64
     below_zero(n - 1)
 }
 
-// The sum, held to what fits.
+// The sum, saturated.
 pub fn plus(a: i64, b: i64) -> i64
     ensures { λ r. ⌜ r ≡ saturated (a +ℤ b) ⌝ }
 {
@@ -94,7 +94,7 @@ pub fn plus(a: i64, b: i64) -> i64
     }
 }
 
-// The difference, held to what fits: a - b is -1 - (-1 - a + b).
+// The difference, saturated: a - b is -1 - (-1 - a + b).
 pub fn minus(a: i64, b: i64) -> i64
     ensures { λ r. ⌜ r ≡ saturated (a -ℤ b) ⌝ }
 {

@@ -19,7 +19,7 @@ fn up(q: u64, rest: u64, d: u64) -> u64
     if d <= 2 * rest { 1 } else { 0 }
 }
 
-// A quotient rounded by the rest of its division, held to what fits: for a divisor of 1 to 10^12 and a rest below it; else 0.
+// A quotient rounded by the rest of its division, saturated: for a divisor of 1 to 10^12 and a rest below it; else 0.
 pub fn rounded(quotient: u64, rest: u64, divisor: u64) -> u64
     ensures { λ r. ⌜ r ≡ roundedOf quotient rest divisor ⌝ }
 {

@@ -1,4 +1,4 @@
--- Payments: what a grown amount is, what a gap tells, and what is held to what fits. Assumes nothing.
+-- Payments: what a grown amount is, what a gap tells, and what is saturated. Assumes nothing.
 use mathlib.Core.Path.{_≡_, refl, sym, ap, _∙_, subst}
 use mathlib.Core.Bool.{Bool, true, false, not, cond, _&&_}
 use mathlib.Core.List.{[]}
@@ -81,7 +81,7 @@ gap-refused g a b why e num =
 pub settle-as-pay : (z : ℤ) (a b : Period) (n : ℕ) → Told a b n → (firstApplicable (payRows z n) ≡ firstApplicable (settleRows z a b)) × (payGiven z n ≡ settleGiven z a b)
 settle-as-pay z a b n t = simp (lt-ltb n 500 (t .few), t .holds, ← t .figure) (refl, refl)
 
--- ---- a difference held to what fits is settled as the exact one
+-- ---- a saturated difference is settled as the exact one
 pub saturated-rows : (z : ℤ) (a b : Period) → firstApplicable (settleRows (saturated z) a b) ≡ firstApplicable (settleRows z a b)
 saturated-rows z a b = simp (saturated-within z 10000000000 (lit< tt))
 

@@ -13,7 +13,7 @@ use Rattle.settlement.proofs.Amounts.{saturated-rows, saturated-given}
 use Rattle.settlement.proofs.paying.reconcile.Statement.{statement}
 use Rattle.settlement.proofs.paying.reconcile.Tie as tie
 
--- the amount that is settled: the exact difference, held to what fits
+-- the amount that is settled: the exact difference, saturated
 difference : (c : tie.After-minus) → toZ w64 (ofZ w64 (c .minus .result)) ≡ saturated (c .before .args .last -ℤ c .before .args .provisional)
 difference c =
     wire (c .minus .result) (c .minus .ok)
