@@ -1,5 +1,8 @@
 // Reads one yearly return on standard input and prints its year, the MW-minutes lost in the year and after its end, and
 // the assessed revenue; or `refused ` and the number. Rules, section 11.
+mod input;
+
+use input::read_whole;
 use libc::STDIN_FILENO;
 use libc::STDOUT_FILENO;
 use return_printout::print_return;
@@ -9,7 +12,7 @@ const BYTES: usize = 8_193;
 
 fn main() {
     let mut space = [0u8; BYTES];
-    let n = io::read_full(STDIN_FILENO, &mut space);
+    let n = read_whole(STDIN_FILENO, &mut space);
     let sheet = print_return(&space[..n]);
     let text = sheet.bytes;
     let length = sheet.length;

@@ -1,0 +1,2 @@
+-- What the contracts of daysheet cite.
+pub mod Input
