@@ -10,6 +10,14 @@ static struct log the_log;
 static struct book the_book;
 static struct year years[PERIOD_YEARS];
 
+/* The most bytes that are kept, and that are lent. */
+enum { KEPT_BYTES = 262144 };
+
+static struct {
+    uint8_t bytes[KEPT_BYTES];
+    size_t length;
+} kept;
+
 /* ---- Answers */
 
 static struct {
@@ -319,7 +327,7 @@ static bool call_reconcile(struct value v)
 
 /* ---- Calls on a return */
 
-static uint8_t lent[1 << 16];
+static uint8_t lent[KEPT_BYTES];
 
 /* The buffer that is lent: byte i is 255 less i mod 251. */
 static void lend(size_t size)
@@ -358,6 +366,28 @@ static bool call_refile(struct value v)
     size_t length;
     lend(size);
     const int number = refile(v.bytes + 2, v.length - 2, lent, size, &length);
+    answer_two(number, length, byte_sum(lent, size));
+    return true;
+}
+
+static bool call_read_kept(struct value v)
+{
+    struct year *year = year_at(v);
+    size_t place;
+    if (!year)
+        return false;
+    const int number = read_return(kept.bytes, kept.length, year, &place);
+    answer_two(number, place, year_sum(year));
+    return true;
+}
+
+static bool call_refile_kept(struct value v)
+{
+    const uint32_t wanted = get32(v.bytes);
+    const size_t size = wanted < KEPT_BYTES ? wanted : KEPT_BYTES;
+    size_t length;
+    lend(size);
+    const int number = refile(kept.bytes, kept.length, lent, size, &length);
     answer_two(number, length, byte_sum(lent, size));
     return true;
 }
@@ -460,6 +490,22 @@ static bool set_log(struct value v)
     return answer_set();
 }
 
+static bool keep(struct value v)
+{
+    const size_t left = KEPT_BYTES - kept.length;
+    const size_t length = v.length < left ? v.length : left;
+    memcpy(kept.bytes + kept.length, v.bytes, length);
+    kept.length += length;
+    return answer_set();
+}
+
+static bool forget(struct value v)
+{
+    (void)v;
+    kept.length = 0;
+    return answer_set();
+}
+
 /* ---- Showing what stands */
 
 static void show_entries(const struct log *log)
@@ -542,7 +588,7 @@ static bool show_written(struct value v)
 
 /* ---- The script */
 
-/* A tag's call and the length of its value: exactly so many bytes, or at least so many where a return follows. */
+/* A tag's call and the length of its value: exactly so many bytes, or at least so many where bytes of any number follow. */
 struct call {
     bool (*carry_out)(struct value v);
     size_t length;
@@ -570,6 +616,8 @@ static const struct call CALLS[] = {
     [18] = {call_write, 3, false},
     [19] = {call_refile, 2, true},
     [20] = {call_print, 0, true},
+    [21] = {call_read_kept, 1, false},
+    [22] = {call_refile_kept, 4, false},
     [32] = {set_slot, 12, false},
     [33] = {set_count, 12, false},
     [34] = {set_book, 62, false},
@@ -578,6 +626,8 @@ static const struct call CALLS[] = {
     [37] = {set_fresh, 1, false},
     [38] = {set_year_log, 1, false},
     [39] = {set_log, 1, false},
+    [40] = {keep, 0, true},
+    [41] = {forget, 0, false},
     [48] = {show_log, 0, false},
     [49] = {show_year, 1, false},
     [50] = {show_book, 0, false},
