@@ -83,13 +83,13 @@ small-fits m (negsuc k) h f = record { sfits = omega arith }
 
 -- a field that may be left out, read at a position
 pub opt-some : {A : Type 0} (tag : ℕ) (v : Value A) (d : A) (is : A → Bool) (s : List ℕ) (at : ℕ) (a : A) (next : ℕ) → at ≤ length s → at + (3 + v .len) ≡ next → field tag v (drop at s) ≡ some a → ReadAt (opt (tagged tag v) d is) s at a next
-opt-some tag v d is s at a next h n e = record { is = rw (e, drop-more (3 + v .len) at next s n); within = omega (arith, field-room tag v s at a h e) }
+opt-some tag v d is s at a next h n e = record { is = rw (e, drop-more (3 + v .len) at next s n); inside = omega (arith, field-room tag v s at a h e) }
 
 pub opt-none : {A : Type 0} (tag : ℕ) (v : Value A) (d : A) (is : A → Bool) (s : List ℕ) (at : ℕ) → at ≤ length s → field tag v (drop at s) ≡ none → ReadAt (opt (tagged tag v) d is) s at d at
-opt-none tag v d is s at h e = record { is = rw e; within = h }
+opt-none tag v d is s at h e = record { is = rw e; inside = h }
 
 pub one-some : {A : Type 0} (tag : ℕ) (v : Value A) (s : List ℕ) (at : ℕ) (a : A) (next : ℕ) → at ≤ length s → at + (3 + v .len) ≡ next → field tag v (drop at s) ≡ some a → ReadAt (one (tagged tag v)) s at a next
-one-some tag v s at a next h n e = record { is = rw (e, drop-more (3 + v .len) at next s n); within = omega (arith, field-room tag v s at a h e) }
+one-some tag v s at a next h n e = record { is = rw (e, drop-more (3 + v .len) at next s n); inside = omega (arith, field-room tag v s at a h e) }
 
 pub field-range : (tag n lo hi : ℕ) (bs : List ℕ) (v : ℕ) → field tag (num n lo hi) bs ≡ some v → (lo ≤ v) × (v ≤ hi)
 unfolding field

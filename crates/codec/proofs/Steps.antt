@@ -15,19 +15,19 @@ use Rattle.codec.proofs.Message.{short-reading}
 module _ {A B : Type 0} (c : Codec A) (d : A → Codec B) {s : List ℕ} {at : ℕ} where
   -- both are there
   pub both-read : {mid next : ℕ} {a : A} {b : B} → ReadAt c s at a mid → ReadAt (d a) s mid b next → ReadAt (both c d) s at (a, b) next
-  both-read {a} h k = record { is = ap (andThen d) (h .is) ∙ ap (pairUp a) (k .is); within = k .within }
+  both-read {a} h k = record { is = ap (andThen d) (h .is) ∙ ap (pairUp a) (k .is); inside = k .inside }
 
   -- the first is not there
   pub first-stopped : {why place : ℕ} → StoppedAt c s at why place → StoppedAt (both c d) s at why place
-  first-stopped h = record { is = ap (andThen d) (h .is); within = h .within }
+  first-stopped h = record { is = ap (andThen d) (h .is); inside = h .inside }
 
   -- the first is there and the second is not
   pub then-stopped : {mid why place : ℕ} {a : A} → ReadAt c s at a mid → StoppedAt (d a) s mid why place → StoppedAt (both c d) s at why place
-  then-stopped {a} h k = record { is = ap (andThen d) (h .is) ∙ ap (pairUp a) (k .is); within = k .within }
+  then-stopped {a} h k = record { is = ap (andThen d) (h .is) ∙ ap (pairUp a) (k .is); inside = k .inside }
 
 -- a required field that is not there
 pub one-none : {A : Type 0} (tag : ℕ) (v : Value A) (s : List ℕ) (at : ℕ) → at ≤ length s → field tag v (drop at s) ≡ none → StoppedAt (one (tagged tag v)) s at malformed at
-one-none tag v s at h e = record { is = ap (need (tagged tag v) (drop at s)) e; within = h }
+one-none tag v s at h e = record { is = ap (need (tagged tag v) (drop at s)) e; inside = h }
 
 -- ---- the whole message
 module _ {A M : Type 0} (c : Codec A) (fromParts : A → M) (most : ℕ) (s : List ℕ) (few : length s ≤ most) where
@@ -36,7 +36,7 @@ module _ {A M : Type 0} (c : Codec A) (fromParts : A → M) (most : ℕ) (s : Li
 
   -- it is stuck
   pub stopped-whole : {why place : ℕ} → StoppedAt c s 0 why place → reading c fromParts most s ≡ refused why place
-  stopped-whole {why} {place} h = short-reading c fromParts most s few ∙ ap (finish fromParts (length s)) (h .is) ∙ ap (refused why) (left place (h .within))
+  stopped-whole {why} {place} h = short-reading c fromParts most s few ∙ ap (finish fromParts (length s)) (h .is) ∙ ap (refused why) (left place (h .inside))
 
   -- it is read and bytes are left over
   pub left-over : {a : A} {next : ℕ} → ReadAt c s 0 a next → next < length s → reading c fromParts most s ≡ refused malformed next
@@ -48,6 +48,6 @@ module _ {A M : Type 0} (c : Codec A) (fromParts : A → M) (most : ℕ) (s : Li
   -- it is read and none are
   pub none-left : {a : A} {next : ℕ} → ReadAt c s 0 a next → length s ≤ next → reading c fromParts most s ≡ whole (fromParts a)
   none-left {a} {next} h k =
-      let n : next ≡ length s = omega (arith, h .within) in
+      let n : next ≡ length s = omega (arith, h .inside) in
       let e : drop next s ≡ [] = ap (λ (x : ℕ). drop x s) n ∙ drop-length s in
       short-reading c fromParts most s few ∙ ap (finish fromParts (length s)) (h .is ∙ ap (got a) e)

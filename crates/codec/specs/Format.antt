@@ -168,9 +168,9 @@ both c d = record {
 -- a is read from place `at` on, and what is left starts at `next`
 pub record ReadAt {A : Type 0} (c : Codec A) (s : List ℕ) (at : ℕ) (a : A) (next : ℕ) : Type 0 where
   pub is : c .read (drop at s) ≡ got a (drop next s)
-  pub within : next ≤ length s
+  pub inside : next ≤ length s
 
 -- from place `at` on it is stuck by this number, at that place
 pub record StoppedAt {A : Type 0} (c : Codec A) (s : List ℕ) (at why place : ℕ) : Type 0 where
   pub is : c .read (drop at s) ≡ stopped why (drop place s)
-  pub within : place ≤ length s
+  pub inside : place ≤ length s

@@ -1,4 +1,4 @@
--- What counts of an input. Assumes nothing.
+-- What counts of an input: rule 11.2.
 use Prim.Native.Nat.{ℕ}
 use lib.IntN.{ℤ, pos, negsuc}
 

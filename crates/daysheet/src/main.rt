@@ -13,8 +13,8 @@ const BYTES: usize = 8_193;
 fn main() {
     let mut space = [0u8; BYTES];
     let n = read_whole(STDIN_FILENO, &mut space);
-    let sheet = print_return(&space[..n]);
-    let text = sheet.bytes;
-    let length = sheet.length;
+    let printed = print_return(&space[..n]);
+    let text = printed.bytes;
+    let length = printed.length;
     io::write_all(STDOUT_FILENO, &text[..length]);
 }

@@ -54,32 +54,32 @@ module _ (s : List ℕ) where
     year-at = one-some 1 yearValue s 0 y 4 (omega arith) refl ey
 
     pub no-pppi : field 2 pppiValue (drop 4 s) ≡ none → RequiredRead s (R.Not 4)
-    no-pppi e = then-stopped year (λ n. fromPppi) year-at (first-stopped pppi (λ p. fromRate) (one-none 2 pppiValue s 4 (year-at .within) e))
+    no-pppi e = then-stopped year (λ n. fromPppi) year-at (first-stopped pppi (λ p. fromRate) (one-none 2 pppiValue s 4 (year-at .inside) e))
 
     module _ {p : ℕ} (ep : field 2 pppiValue (drop 4 s) ≡ some p) where
       pppi-at : ReadAt pppi s 4 p 11
-      pppi-at = one-some 2 pppiValue s 4 p 11 (year-at .within) refl ep
+      pppi-at = one-some 2 pppiValue s 4 p 11 (year-at .inside) refl ep
 
       pub no-rate : field 3 rateValue (drop 11 s) ≡ none → RequiredRead s (R.Not 11)
       no-rate e =
           then-stopped year (λ n. fromPppi) year-at
-          (then-stopped pppi (λ p. fromRate) pppi-at (first-stopped rate (λ r. aic) (one-none 3 rateValue s 11 (pppi-at .within) e)))
+          (then-stopped pppi (λ p. fromRate) pppi-at (first-stopped rate (λ r. aic) (one-none 3 rateValue s 11 (pppi-at .inside) e)))
 
       module _ {r : ℕ} (er : field 3 rateValue (drop 11 s) ≡ some r) where
         rate-at : ReadAt rate s 11 r 18
-        rate-at = one-some 3 rateValue s 11 r 18 (pppi-at .within) refl er
+        rate-at = one-some 3 rateValue s 11 r 18 (pppi-at .inside) refl er
 
         pub no-aic : field 4 aicValue (drop 18 s) ≡ none → RequiredRead s (R.Not 18)
         no-aic e =
             then-stopped year (λ n. fromPppi) year-at
-            (then-stopped pppi (λ p. fromRate) pppi-at (then-stopped rate (λ r. aic) rate-at (one-none 4 aicValue s 18 (rate-at .within) e)))
+            (then-stopped pppi (λ p. fromRate) pppi-at (then-stopped rate (λ r. aic) rate-at (one-none 4 aicValue s 18 (rate-at .inside) e)))
 
         pub all-four : {a : ℕ} → field 4 aicValue (drop 18 s) ≡ some a → RequiredRead s (R.Are (record { number = y; pppi = p; rate = r; aic = a }))
         all-four {a} e =
             let k = field-range 1 1 1 25 s y ey in
             record {
               at = both-read year (λ n. fromPppi) year-at
-                  (both-read pppi (λ p. fromRate) pppi-at (both-read rate (λ r. aic) rate-at (one-some 4 aicValue s 18 a 23 (rate-at .within) refl e)));
+                  (both-read pppi (λ p. fromRate) pppi-at (both-read rate (λ r. aic) rate-at (one-some 4 aicValue s 18 a 23 (rate-at .inside) refl e)));
               year = and-made (le-leb 1 y (k .0)) (le-leb y 25 (k .1));
             }
 
