@@ -21,7 +21,7 @@ unfoldable pub daysTo : ℕ → ℕ
 daysTo zero = 0
 daysTo (suc n) = daysTo n + daysIn (2019 + n)
 
--- rule 2.1: year 1 starts on 31 January 2019, 30 days into the calendar's year, the others on 1 January
+-- rules 1.4 and 2.1: year 1 starts on 31 January 2019, 30 days into the calendar's year, the others on 1 January
 unfoldable pub yearStart : ℕ → ℕ
 unfolding daysTo
 yearStart zero = 0
