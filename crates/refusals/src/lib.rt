@@ -3,33 +3,33 @@ ghost use mathlib.Core.Path.{_≡_};
 ghost use Rattle.refusals.specs.Refusals.{answerNumber, refusalNumber};
 
 pub enum Refusal {
-    // the log handed in breaks a rule
+    // 1: the log breaks one of its rules
     BrokenLog,
-    // start not below end, or end past the regime end
+    // 2: the entry is empty or runs backward, or past the regime end
     BadSpan,
-    // MW outside 1 to 1,000
+    // 3: its MW are not 1 to 1,000
     BadPower,
-    // shares a minute with an entry
+    // 4: another entry covers one of its minutes
     SharedMinute,
-    // 400 entries held
+    // 5: the log is full
     FullLog,
-    // no entry has that start
+    // 6: there is no entry with that key
     NoSuchStart,
-    // stretch reversed or past the regime end
+    // 7: the stretch runs backward, or past the regime end
     BadStretch,
-    // a book entry or a regime end out of range, or two that differ
+    // 8: the book or a regime end is out of range, or two regime ends differ
     BadBook,
-    // something of a year out of range
+    // 9: something of a year is out of range
     BadYear,
-    // floor balance above cap balance
+    // 10: the floor comes out above the cap
     FloorAboveCap,
-    // an amount above its limit
+    // 11: an amount is above its limit
     TooLarge,
-    // day number out of range, period reversed, gap not allowed
+    // 12: a day, a period or the gap of two is out of range
     BadPeriod,
-    // return malformed
+    // 13: the bytes are no return
     Malformed,
-    // no room for the written return
+    // 14: the buffer has no room for the return
     NoRoom,
 }
 
