@@ -235,7 +235,7 @@ module _ {A : Type 0} (f : List A → Item A) (l : (before : List A) → ItemLaw
   all-keep before [] = refl
   all-keep before (x ∷ ys) = all-keep (before ++ (x ∷ [])) ys
 
-  -- it is never stuck
+  -- it never stops by a number
   step-got : (n : ℕ) (before : List A) (bs : List ℕ) (k : ℕ) (rest : List ℕ) → ((a : A) → scanBy f noRule n (before ++ (a ∷ [])) (drop (f before .size a) bs) ≡ stopped k rest → ⊥)
       → (o : Option A) → step f noRule l n before bs o ≡ stopped k rest → ⊥
   step-got n before bs k rest ih none h = let z : _≡_ {A = ℕ} 0 1 = cc in omega arith

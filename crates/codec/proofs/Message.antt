@@ -197,7 +197,7 @@ module _ {A M : Type 0} {c : Codec A} {fromParts : A → M} {parts : M → A} {S
       more : List ℕ
       begins : Says value (front ++ more)
 
-    -- where the reading is stuck, and where something is left
+    -- where the reading stops, and where something is left
     started : (bs : List ℕ) → Bytes bs → (r : Res A) → c .read bs ≡ r → Started bs (restOf r)
     started bs b (got a rest) e =
         let k = l .back bs a rest b e in

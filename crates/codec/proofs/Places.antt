@@ -1,5 +1,5 @@
 -- Where a reading stops: what lies before that place is whole fields, what follows the field there does not matter, and
--- where the reading is stuck, what lies before begins something that may be written. Assumes nothing.
+-- where the reading stops, what lies before begins something that may be written. Assumes nothing.
 use mathlib.Core.Path.{_≡_, refl, sym, ap, subst, _∙_}
 use mathlib.Core.Bool.{Bool, true}
 use mathlib.Core.List.{List, [], _∷_, _++_, append-assoc, append-cancel-right}
@@ -59,7 +59,7 @@ pub record Placed {A : Type 0} (c : Codec A) : Type 0 where
   -- something may be written
   pub any : A
   pub any-ok : c .ok any ≡ true
-  -- where it is stuck, what was read begins something that may be written
+  -- where it stops, what was read begins something that may be written
   pub begun : (bs : List ℕ) (n : ℕ) (rest : List ℕ) → Bytes bs → c .read bs ≡ stopped n rest → Begun c bs rest
 
 -- it refuses by one number alone
@@ -168,7 +168,7 @@ module _ {A : Type 0} (f : Item A) (l : ItemLaws f) where
     else-alike w r q s none e h = let k = none-alike w r q s e h in rw (k .0) (ap (got d) (k .1))
     else-alike w r q s (some x) e h = let k = found-alike w r [] x e h q in rw (k .0) (ap (got x) (k .1))
 
-    -- it is never stuck
+    -- it never stops by a number
     else-got : (bs : List ℕ) (o : Option A) (n : ℕ) (rest : List ℕ) → orElse f d bs o ≡ stopped n rest → ⊥
     else-got bs none n rest h = let z : _≡_ {A = ℕ} 0 1 = cc in omega arith
     else-got bs (some x) n rest h = let z : _≡_ {A = ℕ} 0 1 = cc in omega arith

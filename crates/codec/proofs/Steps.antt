@@ -34,7 +34,7 @@ module _ {A M : Type 0} (c : Codec A) (fromParts : A → M) (most : ℕ) (s : Li
   left : (place : ℕ) → place ≤ length s → length s - length (drop place s) ≡ place
   left place h = omega (arith, length-drop place s)
 
-  -- it is stuck
+  -- it stops by a number
   pub stopped-whole : {why place : ℕ} → StoppedAt c s 0 why place → reading c fromParts most s ≡ refused why place
   stopped-whole {why} {place} h = short-reading c fromParts most s few ∙ ap (finish fromParts (length s)) (h .is) ∙ ap (refused why) (left place (h .inside))
 

@@ -20,7 +20,7 @@ pub record Value (A : Type 0) : Type 0 where
   pub put : A → List ℕ
   pub fine : A → Bool
 
--- kept where the test holds
+-- what is there, where the test holds
 abbrev pub when : {A : Type 0} → Bool → Option A → Option A
 when true o = o
 when false o = none
@@ -170,7 +170,7 @@ pub record ReadAt {A : Type 0} (c : Codec A) (s : List ℕ) (at : ℕ) (a : A) (
   pub is : c .read (drop at s) ≡ got a (drop next s)
   pub inside : next ≤ length s
 
--- from place `at` on it is stuck by this number, at that place
+-- from place `at` on it stops by this number, at that place
 pub record StoppedAt {A : Type 0} (c : Codec A) (s : List ℕ) (at why place : ℕ) : Type 0 where
   pub is : c .read (drop at s) ≡ stopped why (drop place s)
   pub inside : place ≤ length s

@@ -1,5 +1,5 @@
 -- A message is bytes that a format takes from the first to the last, at most so many. What reading and writing one give, and
--- where a refusal stands, for values M that are made of what the format reads.
+-- the place of a refusal, for values M that are made of what the format reads.
 use mathlib.Core.Bool.{Bool, true, false, cond}
 use mathlib.Core.List.{List, [], _∷_, _++_}
 use Prim.Native.Nat.{ℕ, _-_}
@@ -13,7 +13,7 @@ pub data Reading (M : Type 0) : Type 0 where
   whole : M → Reading M
   refused : ℕ → ℕ → Reading M
 
--- refused where the format is stuck, by its number; 13 where bytes are left over
+-- refused where the format stops, by its number; 13 where bytes are left over
 abbrev pub finish : {A M : Type 0} → (A → M) → ℕ → Res A → Reading M
 finish fromParts n (got a []) = whole (fromParts a)
 finish fromParts n (got a (x ∷ rest)) = refused malformed (n - length (x ∷ rest))

@@ -99,7 +99,7 @@ pub record Demand2 : Type 0 where
       → revenueFigure r
       ≡ GCR (y .rate) (take (y .«line_count») (y .lines)) -ℤ MRC (y .rate) (take (y .«line_count») (y .lines)) -ℤ IAT (y .rate) (take (y .«line_count») (y .lines))
   -- ---- carried balances
-  -- a balance starts as year one's amount; each later one is the earlier one carried, and the year's amount
+  -- rule 8.1, year by year
   pub starts : (index : List ℕ) (amounts : List ℤ) → balanceAfter index amounts 0 ≡ getD amounts 0 (pos 0)
   pub goes-on : (n : ℕ) (index : List ℕ) (amounts : List ℤ)
       → balanceAfter index amounts (suc n) ≡ carryOf (balanceAfter index amounts n) (getD index n 0) (getD index (suc n) 0) +ℤ getD amounts (suc n) (pos 0)
@@ -132,7 +132,7 @@ pub record Demand2 : Type 0 where
   -- rule 9.3: an entry passes the test, and none above it does
   pub growth : (n : ℕ) (r : Growth) → GrowthGives n r → growthNumber r ≡ 0
       → (growthFigure r ^ 100 * 10000 ^ n ≤ 10 ^ 900 * 10388 ^ n) × ((e : ℕ) → e ^ 100 * 10000 ^ n ≤ 10 ^ 900 * 10388 ^ n → e ≤ growthFigure r)
-  -- a payment is the magnitude x entry / 10^9 rounded down, sign restored, and near the exact amount
+  -- rule 9.4: a payment, from the entry; and how near it is to the exact amount
   pub payment : (amount : ℤ) (n : ℕ) (r : Payment) → PayGives amount n r → payNumber r ≡ 0 → (g : Growth) → GrowthGives n g
       → payFigure r ≡ onMagnitude (λ (m : ℕ). m * growthFigure g / 1000000000) amount
   pub payment-near : (amount : ℤ) (n : ℕ) (r : Payment) → PayGives amount n r → payNumber r ≡ 0 → NearExact (natAbs amount) n (natAbs (payFigure r))
@@ -156,10 +156,10 @@ pub record Demand2 : Type 0 where
   pub whole-fields : (y : Year) → all isWhole (fieldsOf y) ≡ true
   pub flat : (y : Year) (out : List ℕ) (r : Written) (o : List ℕ) → WriteGives y out r o → writtenNumber r ≡ 0
       → o ≡ joined (fieldsOf y) ++ drop (length (joined (fieldsOf y))) out
-  -- in an accepted return tags ascend and only 06 and 07 repeat
+  -- rule 10.1: the order of fields in an accepted return
   pub tags : (bs : List ℕ) → Bytes bs → (t : Return) → ReturnGives bs t → answerNumber (t .answer) ≡ 0
       → (fields : List (List ℕ)) → all isWhole fields ≡ true → bs ≡ joined fields → Ordered fields
-  -- ---- the place of a refused return: the one at which it stands, or 8,192 where it is longer
+  -- ---- rules 10.4 and 10.5: the one place of a refused return
   pub place : (bs : List ℕ) → Bytes bs → (t : Return) → ReturnGives bs t → (answerNumber (t .answer) ≡ 0 → ⊥) → length bs ≤ mostBytes
       → RefusalPlace bs (t .place) × ((other : ℕ) → RefusalPlace bs other → other ≡ t .place)
   pub one-place : (bs : List ℕ) (place other : ℕ) → RefusalPlace bs place → RefusalPlace bs other → place ≡ other

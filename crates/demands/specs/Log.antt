@@ -66,7 +66,7 @@ notCancelled [] = []
 notCancelled (put e ∷ since) = cond (cancelledSince e since) (notCancelled since) (e ∷ notCancelled since)
 notCancelled (takenOut key ∷ since) = notCancelled since
 
--- "the entries accepted and not since cancelled"
+-- demand 3: the entries accepted and not since cancelled
 abbrev pub acceptedNotCancelled : List Turn → List Entry
 acceptedNotCancelled turns = notCancelled (eventsOf happened turns)
 

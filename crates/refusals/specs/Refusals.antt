@@ -1,4 +1,4 @@
--- The refusals, their numbers and their order: rules 12.1 and 12.2.
+-- The refusals and their numbers: rule 12.1; and the first row that applies: rule 12.2.
 use mathlib.Core.Bool.{Bool, cond}
 use mathlib.Core.List.{List, [], _∷_}
 use Prim.Native.Nat.{ℕ}

@@ -1,4 +1,4 @@
--- The format's laws, the round trip both ways, where a refusal stands, and a return field after field.
+-- The format's laws, the round trip both ways, the place of a refusal, and a return field after field.
 pub mod Lawful
 pub mod Years
 pub mod RoundTrip

@@ -1,3 +1,3 @@
--- A year's return written field after field, and where a refusal stands.
+-- A year's return written field after field, and the place of a refusal.
 pub mod Flat
 pub mod Places

@@ -1,4 +1,4 @@
--- What each call of settlement checks, in order, and what comes back.
+-- What each call of settlement checks, in order, and what comes back: rules 9.2 to 9.5 and 12.4.
 use mathlib.Core.Bool.{Bool, cond, not, _&&_}
 use mathlib.Core.List.{[], _∷_}
 use mathlib.Core.Path.{_≡_}
