@@ -12,7 +12,8 @@ use borrow.Author.Tests.{ne-eqb}
 use Rattle.money.proofs.Parts.{over, under, diff, neg-over, neg-under, abs, from-lt, from-ge, to-eq}
 use Rattle.balances.specs.Balance.{carryOf, balanceAfter}
 use Rattle.balances.specs.Assessment.{heldBetween}
-use Rattle.balances.specs.Licence.{RRAC, RRAF, isNone, CFA}
+use Rattle.money.specs.Pounds.{isNone}
+use Rattle.balances.specs.Licence.{RRAC, RRAF, CFA}
 
 -- ---- balances: SC3 9 and 11 to 13, with the uplift of 16 to 18
 -- a balance starts as year one's amount

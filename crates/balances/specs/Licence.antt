@@ -1,9 +1,8 @@
 -- The adjustment in the licence's terms: SC3 4 to 8. No contract is stated by these definitions; theorems speak by them.
-use mathlib.Core.Bool.{Bool, cond, not}
-use Prim.Native.Nat.{_-_}
-use lib.Dec.{eqb}
-use lib.IntN.{ℤ, pos, negℤ, natAbs, _-ℤ_}
+use mathlib.Core.Bool.{cond, not}
+use lib.IntN.{ℤ, pos, negℤ, _-ℤ_}
 use lib.Signed.{ltZ}
+use Rattle.money.specs.Pounds.{isNone}
 
 -- SC3 5 and 6: the Revenue Excess At Cap
 abbrev pub RRAC : ℤ → ℤ → ℤ
@@ -18,9 +17,6 @@ RRAF fln arn = fln -ℤ arn
 
 abbrev pub RSF : ℤ → ℤ → ℤ
 RSF fln arn = cond (ltZ (pos 0) (RRAF fln arn)) (RRAF fln arn) (pos 0)
-
-abbrev pub isNone : ℤ → Bool
-isNone z = eqb (natAbs z) 0
 
 -- SC3 4: the End Of Period Cap And Floor Revenue Adjustment, by its four cases
 unfoldable pub CFA : ℤ → ℤ → ℤ → ℤ → ℤ

@@ -3,7 +3,8 @@ use mathlib.Core.Bool.{Bool, not, _&&_}
 use mathlib.Core.List.{List, [], _∷_, _++_}
 use Prim.Native.Nat.{ℕ, _+_}
 use lib.Dec.{leb, ltb, eqb}
-use lib.IntN.{ℤ, pos, natAbs}
+use lib.IntN.{ℤ, pos}
+use Rattle.money.specs.Pounds.{isNone}
 use Rattle.calendar.specs.Years.{lastYear, yearStart, yearEnd}
 use Rattle.entries.specs.declared.Entry.{Entry}
 use Rattle.outage.specs.Log.{slots, lastRegimeEnd, validEntries}
@@ -81,9 +82,6 @@ abbrev pub markValue : Value ℕ
 markValue = num 1 1 1
 
 -- 09: the within-period adjustment, which is not 0
-abbrev pub isNone : ℤ → Bool
-isNone z = eqb (natAbs z) 0
-
 abbrev pub wpaValue : Value ℤ
 wpaValue = restricted (λ z. not (isNone z)) (int 1000000000)
 

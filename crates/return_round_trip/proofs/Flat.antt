@@ -23,7 +23,8 @@ use Rattle.codec.specs.Fields.{head}
 use Rattle.codec.specs.Theorems.{isWhole, joined}
 use Rattle.codec.specs.Format.{fieldOf, unless, texts}
 use Rattle.codec.proofs.Fields.{joined-append, same-fields}
-use Rattle.return_format.specs.Form.{yearValue, pppiValue, rateValue, aicValue, isLeftOut, markValue, isNone, lineItem, entryItem, body, form}
+use Rattle.money.specs.Pounds.{isNone}
+use Rattle.return_format.specs.Form.{yearValue, pppiValue, rateValue, aicValue, isLeftOut, markValue, lineItem, entryItem, body, form}
 use Rattle.return_format.specs.Return.{partsOf, readRows, readYear, returnOf}
 use Rattle.return_round_trip.specs.Flat.{factorsField, lineField, outageField, markField, wpaField, present, fieldsOf, tagOf, mayPrecede, Ordered}
 use Rattle.return_round_trip.proofs.RoundTrip.{accepted-whole, read-written}

@@ -18,7 +18,8 @@ use Rattle.codec.proofs.Items.{ItemLaws, tagged-laws}
 use Rattle.codec.proofs.Formats.{Lawful, one-lawful, opt-lawful, both-lawful}
 use Rattle.codec.proofs.Places.{Placed, Numbered, one-placed, opt-placed, both-placed, one-numbered, opt-numbered, both-numbered}
 use Rattle.codec.proofs.Every.{many-lawful, many-placed, many-numbered}
-use Rattle.return_format.specs.Form.{yearValue, pppiValue, rateValue, aicValue, leftOut, isLeftOut, factorsValue, toLine, fromLine, lineLayout, lineValue, toEntry, fromEntry, entryLayout, mayFollow, entryValue, markValue, isNone, wpaValue, lineItem, entryItem, factors, mark, wpa, required, body, form}
+use Rattle.money.specs.Pounds.{isNone}
+use Rattle.return_format.specs.Form.{yearValue, pppiValue, rateValue, aicValue, leftOut, isLeftOut, factorsValue, toLine, fromLine, lineLayout, lineValue, toEntry, fromEntry, entryLayout, mayFollow, entryValue, markValue, wpaValue, lineItem, entryItem, factors, mark, wpa, required, body, form}
 
 -- ---- values
 line-laws : ValueLaws lineValue

@@ -22,7 +22,8 @@ use Rattle.year.specs.declared.Year.{Year}
 use Rattle.year.specs.Year.{goodWpa, goodLine, isZeroLine, goodLines, goodYear, lineSlots, zeroLine}
 use Rattle.year.proofs.Says.{line-says, LinesSay, lines-say, YearSays, year-says}
 use Rattle.codec.specs.Format.{num, pair, allFine}
-use Rattle.return_format.specs.Form.{yearValue, pppiValue, rateValue, aicValue, isLeftOut, factorsValue, lineLayout, lineValue, entryLayout, startsIn, mayFollow, entryValue, isNone, wpaValue, lineItem, entryItem, factors, lines, outages, mark, wpa, Parts, required, form}
+use Rattle.money.specs.Pounds.{isNone}
+use Rattle.return_format.specs.Form.{yearValue, pppiValue, rateValue, aicValue, isLeftOut, factorsValue, lineLayout, lineValue, entryLayout, startsIn, mayFollow, entryValue, wpaValue, lineItem, entryItem, factors, lines, outages, mark, wpa, Parts, required, form}
 use Rattle.return_format.specs.Return.{yearOf, partsOf, logFits, writable, validYear}
 use Rattle.return_round_trip.proofs.Lawful.{none-is}
 

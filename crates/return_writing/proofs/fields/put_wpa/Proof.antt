@@ -8,7 +8,8 @@ use mir.Syntax.{w64}
 use mir.Val.{toZ, ofZ}
 use mir.ValLaws.{toZ-ofZ}
 use Rattle.codec.specs.Format.{fieldOf}
-use Rattle.return_format.specs.Form.{wpaValue, isNone}
+use Rattle.money.specs.Pounds.{isNone}
+use Rattle.return_format.specs.Form.{wpaValue}
 use Rattle.codec.proofs.Putting.{left-out, put-in}
 use Rattle.return_writing.proofs.Laying.{wpa-laid}
 use Rattle.return_writing.proofs.Sizes.{some-size}
