@@ -5,10 +5,11 @@ mod input;
 use input::read_whole;
 use libc::STDIN_FILENO;
 use libc::STDOUT_FILENO;
+use return_format::Return;
 use return_printout::print_return;
 
 // One byte more than the longest return is enough to refuse it.
-const BYTES: usize = 8_193;
+const BYTES: usize = Return::MOST_BYTES + 1;
 
 fn main() {
     let mut space = [0u8; BYTES];
