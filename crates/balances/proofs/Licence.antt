@@ -16,7 +16,7 @@ use Rattle.money.specs.Pounds.{isNone}
 use Rattle.balances.specs.Licence.{RRAC, RRAF, CFA}
 
 -- ---- balances: SC3 9 and 11 to 13, with the uplift of 16 to 18
--- a balance starts as year one's amount
+-- the first balance is the first year's amount
 pub starts-as : (index : List ℕ) (amounts : List ℤ) → balanceAfter index amounts 0 ≡ getD amounts 0 (pos 0)
 unfolding balanceAfter
 starts-as index amounts = refl

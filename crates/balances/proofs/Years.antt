@@ -32,7 +32,7 @@ module _ (z : ℤ) (before now : ℕ) (hz : natAbs z ≤ mostBalance) (hb : 5000
 
 -- ---- years one after the other
 module _ (index : List ℕ) (amounts : List ℤ) where
-  -- a balance starts as year one's amount
+  -- the first balance is the first year's amount
   pub starts : balanceAfter index amounts 0 ≡ getD amounts 0 (pos 0)
   unfolding balanceAfter
   starts = refl

@@ -115,6 +115,6 @@ pub record Demand1 : Type 0 where
   pub pay-refused : (amount : ℤ) (n : ℕ) (r : Payment) → PayGives amount n r → (payNumber r ≡ 0 → ⊥) → payFigure r ≡ pos 0
   pub settle-refused : (adjustment : ℤ) (measured settled : Period) (r : Payment) → SettleGives adjustment measured settled r → (payNumber r ≡ 0 → ⊥) → payFigure r ≡ pos 0
   pub reconcile-refused : (final provisional : ℤ) (settled reconciled : Period) (r : Payment) → ReconcileGives final provisional settled reconciled r → (payNumber r ≡ 0 → ⊥) → payFigure r ≡ pos 0
-  -- a refused reading gives a fresh year, and an accepted one the place 0
+  -- beside a refused reading a fresh year, beside an accepted one the place 0
   pub read-refused : (bs : List ℕ) (r : Return) → ReturnGives bs r → (answerNumber (r .answer) ≡ 0 → ⊥) → r .year ≡ freshYear
   pub read-accepted : (bs : List ℕ) (r : Return) → ReturnGives bs r → answerNumber (r .answer) ≡ 0 → r .place ≡ 0

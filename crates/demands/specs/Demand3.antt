@@ -38,7 +38,7 @@ pub record Demand3 (regimeEnd : ℕ) (log : Log) (es : List Entry) : Type 0 wher
   pub apart : (i j : ℕ) → i < j → j < log .count → BothCover (slot log i) (slot log j) → ⊥
   -- the test by which `enter` refuses an entry decides that
   pub decided : (x y : Entry) → (sharesMinute x y ≡ true → BothCover x y) × (BothCover x y → sharesMinute x y ≡ true)
-  -- the slots past the count are zero
+  -- a slot that holds no entry is zero
   pub free : (i : ℕ) → log .count ≤ i → i < slots → slot log i ≡ zeroEntry
   -- "the whole equals the minute-by-minute sum over those entries", as `lost_energy` answers
   pub minutes : (a b : ℕ) → a ≤ b → b ≤ log .«regime_end» → (r : LostEnergy) → LostGives log a b r → r ≡ MwMinutes (sumFrom a (b - a) (lostIn es))

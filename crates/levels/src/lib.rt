@@ -43,7 +43,7 @@ impl Book {
     // The Minimum Availability Target of years 2 to 24, in MWh.
     pub const TARGET: u32 = 7_012_800;
 
-    // The published levels, the regime end 13,632,480, and 0 elsewhere.
+    // The levels as published, the last regime end, and nothing else: rule 3.2.
     pub fn published() -> Book
         ensures { λ b. ⌜ b ≡ publishedBook ⌝ }
     {

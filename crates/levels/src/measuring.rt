@@ -126,7 +126,7 @@ pub(crate) fn measured(
     Availability::MwMinutes(figure)
 }
 
-// Availability of a year: rated capacity times its minutes, less its lost energy.
+// Availability of a year: what the cable could carry in its minutes, less what it lost in them.
 pub fn availability_of(book: Book, log: Log, number: u8) -> Availability
     ensures { λ r. ⌜ AvailabilityGives book log number r ⌝ }
 {

@@ -88,7 +88,7 @@ fn total(lines: [Line; Year::LINES], count: usize, rate: u32) -> i64
     plus(others, at_least_zero(cmr))
 }
 
-// Assessed revenue of a year: each euro line converted and rounded by itself, capacity market revenue lifted to zero as
+// Assessed revenue of a year: euro lines converted one by one, and capacity market revenue lifted to zero as
 // a sum.
 pub fn revenue_of(y: Year) -> Revenue
     ensures { λ r. ⌜ RevenueGives y r ⌝ }

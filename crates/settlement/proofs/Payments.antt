@@ -74,7 +74,7 @@ entry-greatest n e h y =
 hundred : _≢_ {A = ℕ} 100 0
 hundred e = omega arith
 
--- A payment of m pounds is at most the exact amount, and short of it by less than 1 + m / 10^9 pounds.
+-- A payment of m pounds is never above the exact amount, and less than 1 + m / 10^9 pounds below it.
 pub near : (m n : ℕ) → n < 500 → NearExact m n (m * growthOf n / 1000000000)
 near m n h =
     let e = growthOf n in

@@ -1,4 +1,4 @@
-// Text by value, in ASCII: at most 64 bytes, and how many there are. Numbers are decimal, a negative one with a leading
+// Text by value, in ASCII: at most 64 bytes, and how many there are. Numbers are in decimal, a negative one behind a
 // minus: rule 11.3.
 use money::is_negative;
 use money::magnitude;
