@@ -101,6 +101,7 @@ demand-1 = record {
   levels-checks = λ book y l r g. (λ b. g .0 ∙ rw b refl, λ b v. g .0 ∙ rw (b, v) refl);
   period-checks = λ book years l r g. (λ b. g .0 ∙ rw b refl, λ b v. g .0 ∙ rw (b, v) refl);
   revenue-checks = λ y r g v. g .0 ∙ rw v refl;
+  assess-years-checks = λ y n r g v. g .0 ∙ rw v refl;
   assess-checks = λ y r g v. g .0 ∙ rw v refl;
   write-checks = λ y out r o g v. g .0 ∙ rw v refl;
   numbered = numbers;

@@ -87,6 +87,7 @@ pub record Demand1 : Type 0 where
   pub levels-checks : (book : Book) (y : Year) (log : Log) (r : Levels) → LevelsGives book y log r → BookThenLog book log (levelsNumber r)
   pub period-checks : (book : Book) (years : List Year) (log : Log) (r : Assessment) → PeriodGives book years log r → BookThenLog book log (assessNumber r)
   pub revenue-checks : (y : Year) (r : Revenue) → RevenueGives y r → goodYear y ≡ false → revenueNumber r ≡ 9
+  pub assess-years-checks : (y : Yearly) (n : ℕ) (r : Assessment) → YearsGives y n r → assessable y n ≡ false → assessNumber r ≡ 9
   pub assess-checks : (y : Yearly) (r : Assessment) → AssessGives y r → assessable y 5 ≡ false → assessNumber r ≡ 9
   pub write-checks : (y : Year) (out : List ℕ) (r : Written) (o : List ℕ) → WriteGives y out r o → validLog (y .log) ≡ false → writtenNumber r ≡ 1
   -- ---- "A refused call has a fixed number": 1 to 14, each for one refusal
