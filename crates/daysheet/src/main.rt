@@ -8,7 +8,7 @@ use libc::STDOUT_FILENO;
 use return_format::Return;
 use return_printout::print_return;
 
-// One byte more than the longest return is enough to refuse it.
+// One byte more than a return may have is enough to refuse it.
 const BYTES: usize = Return::MOST_BYTES + 1;
 
 fn main() {
