@@ -70,18 +70,27 @@ static unsigned part(unsigned slots, unsigned fullness)
     return slots * fullness / 100;
 }
 
-static void stand_log(unsigned count)
+static void stand_slot(unsigned i, uint32_t start, uint32_t minutes)
 {
-    for (unsigned i = 0; i < count; i++) {
-        const size_t place = begin(32);
-        put(2, i);
-        put_outage(start_of(i), 3000, 500);
-        end(place);
-    }
+    const size_t place = begin(32);
+    put(2, i);
+    put_outage(start, minutes, 500);
+    end(place);
+}
+
+static void stand_count(unsigned count)
+{
     const size_t place = begin(33);
     put(8, count);
     put(4, LAST_REGIME_END);
     end(place);
+}
+
+static void stand_log(unsigned count)
+{
+    for (unsigned i = 0; i < count; i++)
+        stand_slot(i, start_of(i), 3000);
+    stand_count(count);
 }
 
 /* Where one more outage is to find room. */
@@ -223,6 +232,57 @@ static void print_with(void (*bytes)(unsigned), unsigned fullness)
     end(place);
 }
 
+/* ---- The day sheet: of touching outages from minute 0 on; at 100 % the longest there is, 9,866 pieces, at 0 % empty */
+
+enum { FRESH = 20, CONTINUED = 21, DAY = 1440, PIECE_BYTES = 13, KEPT_AT_ONCE = 5000 };
+
+/* Where outage i starts, and the one before it ends: never at a midnight but for the first and the last minute. */
+static uint32_t bound(unsigned i)
+{
+    return i < LOG_SLOTS ? 34081 * i : LAST_REGIME_END;
+}
+
+/* How many pieces the first so many outages have: one for each day, and one more for each outage that starts inside a day. */
+static size_t pieces_of(unsigned count)
+{
+    return count == 0 ? 0 : (bound(count) - 1) / DAY + count;
+}
+
+static void stand_touching(unsigned fullness)
+{
+    const unsigned count = part(LOG_SLOTS, fullness);
+    for (unsigned i = 0; i < count; i++)
+        stand_slot(i, bound(i), bound(i + 1) - bound(i));
+    stand_count(count);
+}
+
+static void put_piece(uint8_t tag, uint32_t start, uint32_t end_minute)
+{
+    const size_t place = begin(tag);
+    put_outage(start, end_minute - start, 500);
+    end(place);
+}
+
+/* The kept bytes: pieces one after the other, so many in a field. */
+static void stand_kept_sheet(unsigned fullness)
+{
+    const unsigned count = part(LOG_SLOTS, fullness);
+    size_t pieces = 0, field = 0;
+    for (unsigned i = 0; i < count; i++) {
+        uint32_t next;
+        for (uint32_t start = bound(i); start < bound(i + 1); start = next) {
+            next = (start / DAY + 1) * DAY;
+            if (next > bound(i + 1))
+                next = bound(i + 1);
+            if (pieces % KEPT_AT_ONCE == 0)
+                field = begin(40);
+            put_piece(start == bound(i) ? FRESH : CONTINUED, start, next);
+            pieces++;
+            end(field);
+        }
+    }
+}
+
 /* ---- Calls */
 
 static void enter(uint32_t start)
@@ -338,6 +398,17 @@ static void print(unsigned fullness)
     print_with(put_return, fullness);
 }
 
+static void read_sheet(unsigned fullness)
+{
+    (void)fullness;
+    short_field(24, 4, LAST_REGIME_END);
+}
+
+static void write_sheet(unsigned fullness)
+{
+    short_field(25, 4, PIECE_BYTES * pieces_of(part(LOG_SLOTS, fullness)));
+}
+
 /* ---- Bases: the cheapest call of the like kind */
 
 /* An entry of the growth table: a short call and a short answer. */
@@ -381,6 +452,12 @@ static void refile_no_room(unsigned fullness)
     short_field(19, 2, 0);
 }
 
+/* No bytes are kept: refused at place 0, with the room that the sheet takes. */
+static void refile_kept_nothing(unsigned fullness)
+{
+    short_field(22, 4, PIECE_BYTES * pieces_of(part(LOG_SLOTS, fullness)));
+}
+
 static void print_refused(unsigned fullness)
 {
     print_with(put_refused_return, fullness);
@@ -413,6 +490,8 @@ static const struct bench_case CASES[] = {
     {"write", read_call, write_call, refile_nothing},
     {"refile", stand_nothing, refile, refile_refused},
     {"print", stand_nothing, print, print_refused},
+    {"read-sheet", stand_kept_sheet, read_sheet, growth},
+    {"write-sheet", stand_touching, write_sheet, refile_kept_nothing},
 };
 
 static const struct bench_case *case_of(const char *name, size_t length)

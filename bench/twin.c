@@ -175,11 +175,6 @@ static struct year *year_at(struct value v)
     return v.bytes[0] < PERIOD_YEARS ? &years[v.bytes[0]] : NULL;
 }
 
-static struct entry entry_of(const uint8_t *bytes)
-{
-    return (struct entry){get32(bytes), get32(bytes + 4), get16(bytes + 8)};
-}
-
 static struct period period_of(const uint8_t *bytes)
 {
     return (struct period){get32(bytes), get32(bytes + 4)};
@@ -198,7 +193,7 @@ static bool call_empty(struct value v)
 
 static bool call_enter(struct value v)
 {
-    answer_log(enter(&the_log, entry_of(v.bytes)));
+    answer_log(enter(&the_log, get_entry(v.bytes)));
     return true;
 }
 
@@ -329,11 +324,13 @@ static bool call_reconcile(struct value v)
 
 static uint8_t lent[KEPT_BYTES];
 
-/* The buffer that is lent: byte i is 255 less i mod 251. */
-static void lend(size_t size)
+/* The buffer that is lent: byte i is 255 less i mod 251. Gives its size, at most that of all that is kept. */
+static size_t lend(size_t wanted)
 {
+    const size_t size = wanted < KEPT_BYTES ? wanted : KEPT_BYTES;
     for (size_t i = 0; i < size; i++)
         lent[i] = (uint8_t)(255 - i % 251);
+    return size;
 }
 
 static bool call_read(struct value v)
@@ -350,11 +347,10 @@ static bool call_read(struct value v)
 static bool call_write(struct value v)
 {
     struct year *year = year_at(v);
-    const size_t size = get16(v.bytes + 1);
     size_t length;
     if (!year)
         return false;
-    lend(size);
+    const size_t size = lend(get16(v.bytes + 1));
     const int number = write_return(year, lent, size, &length);
     answer_two(number, length, byte_sum(lent, size));
     return true;
@@ -362,9 +358,8 @@ static bool call_write(struct value v)
 
 static bool call_refile(struct value v)
 {
-    const size_t size = get16(v.bytes);
+    const size_t size = lend(get16(v.bytes));
     size_t length;
-    lend(size);
     const int number = refile(v.bytes + 2, v.length - 2, lent, size, &length);
     answer_two(number, length, byte_sum(lent, size));
     return true;
@@ -383,12 +378,16 @@ static bool call_read_kept(struct value v)
 
 static bool call_refile_kept(struct value v)
 {
-    const uint32_t wanted = get32(v.bytes);
-    const size_t size = wanted < KEPT_BYTES ? wanted : KEPT_BYTES;
+    const size_t size = lend(get32(v.bytes));
     size_t length;
-    lend(size);
     const int number = refile(kept.bytes, kept.length, lent, size, &length);
     answer_two(number, length, byte_sum(lent, size));
+    return true;
+}
+
+static bool answer_text(int number, const uint8_t *text, size_t length)
+{
+    answer_two(number, length, byte_sum(text, length));
     return true;
 }
 
@@ -396,8 +395,57 @@ static bool call_print(struct value v)
 {
     uint8_t text[TEXT_BYTES];
     const size_t length = print_return(v.bytes, v.length, text);
-    answer_two(0, length, byte_sum(text, length));
+    return answer_text(0, text, length);
+}
+
+/* ---- Calls on a day sheet, and on dates */
+
+/* Reads a sheet into the log that stands. */
+static bool answer_sheet(uint32_t regime_end, const uint8_t *bytes, size_t length)
+{
+    size_t place;
+    const int number = read_sheet(bytes, length, regime_end, &the_log, &place);
+    begin((uint64_t)number);
+    figure(place);
+    figure(the_log.count);
+    figure(add_log(0, &the_log));
+    end_line();
     return true;
+}
+
+static bool call_read_sheet(struct value v)
+{
+    return answer_sheet(get32(v.bytes), v.bytes + 4, v.length - 4);
+}
+
+static bool call_read_sheet_kept(struct value v)
+{
+    return answer_sheet(get32(v.bytes), kept.bytes, kept.length);
+}
+
+static bool call_write_sheet(struct value v)
+{
+    const size_t size = lend(get32(v.bytes));
+    size_t length;
+    const int number = write_sheet(&the_log, lent, size, &length);
+    answer_two(number, length, byte_sum(lent, size));
+    return true;
+}
+
+static bool call_print_minute(struct value v)
+{
+    uint8_t text[TEXT_BYTES];
+    size_t length;
+    const int number = print_minute(get32(v.bytes), text, &length);
+    return answer_text(number, text, length);
+}
+
+static bool call_print_outage(struct value v)
+{
+    uint8_t text[TEXT_BYTES];
+    size_t length;
+    const int number = print_outage(get_entry(v.bytes), text, &length);
+    return answer_text(number, text, length);
 }
 
 /* ---- Setting what stands */
@@ -407,7 +455,7 @@ static bool set_slot(struct value v)
     const size_t slot = get16(v.bytes);
     if (slot >= LOG_SLOTS)
         return false;
-    the_log.entries[slot] = entry_of(v.bytes + 2);
+    the_log.entries[slot] = get_entry(v.bytes + 2);
     return answer_set();
 }
 
@@ -569,20 +617,33 @@ static bool show_book(struct value v)
     return true;
 }
 
-static bool show_written(struct value v)
+static void show_lent(int number, size_t length, size_t size)
 {
-    struct year *year = year_at(v);
-    const size_t size = get16(v.bytes + 1);
-    size_t length;
-    if (!year)
-        return false;
-    lend(size);
-    const int number = write_return(year, lent, size, &length);
     begin((uint64_t)number);
     figure(length);
     for (size_t i = 0; i < size; i++)
         figure(lent[i]);
     end_line();
+}
+
+static bool show_written(struct value v)
+{
+    struct year *year = year_at(v);
+    size_t length;
+    if (!year)
+        return false;
+    const size_t size = lend(get16(v.bytes + 1));
+    const int number = write_return(year, lent, size, &length);
+    show_lent(number, length, size);
+    return true;
+}
+
+static bool show_sheet(struct value v)
+{
+    const size_t size = lend(get16(v.bytes));
+    size_t length;
+    const int number = write_sheet(&the_log, lent, size, &length);
+    show_lent(number, length, size);
     return true;
 }
 
@@ -618,6 +679,11 @@ static const struct call CALLS[] = {
     [20] = {call_print, 0, true},
     [21] = {call_read_kept, 1, false},
     [22] = {call_refile_kept, 4, false},
+    [23] = {call_read_sheet, 4, true},
+    [24] = {call_read_sheet_kept, 4, false},
+    [25] = {call_write_sheet, 4, false},
+    [26] = {call_print_minute, 4, false},
+    [27] = {call_print_outage, 10, false},
     [32] = {set_slot, 12, false},
     [33] = {set_count, 12, false},
     [34] = {set_book, 62, false},
@@ -632,6 +698,7 @@ static const struct call CALLS[] = {
     [49] = {show_year, 1, false},
     [50] = {show_book, 0, false},
     [51] = {show_written, 3, false},
+    [52] = {show_sheet, 2, false},
 };
 
 /* What was read of the script and is not carried out yet: from `at` to `end`. */

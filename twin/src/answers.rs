@@ -12,14 +12,15 @@ pub fn refusal_words(number: i128) -> &'static str {
         4 => "shares a minute with an entry",
         5 => "400 entries held",
         6 => "no entry has that start",
-        7 => "stretch reversed or past the regime end",
+        7 => "stretch reversed, or a minute past the regime end",
         8 => "a book entry or regime end out of range, or book and log differ in regime end",
         9 => "year number, index, rate, factor, line or amount out of range",
         10 => "floor balance above cap balance",
         11 => "above 10^9, or a balance or what is settled above 10^10",
         12 => "day number out of range, period reversed, or n not 0 to 499",
-        13 => "return malformed",
-        14 => "no room for the written return",
+        13 => "return or day sheet malformed",
+        14 => "no room for the written return or day sheet",
+        15 => "a piece of a day sheet that does not fit",
         _ => "no such refusal",
     }
 }
@@ -106,10 +107,18 @@ fn figure_words(call: &Call, figures: &[i128]) -> Option<String> {
         Call::Read { .. } | Call::ReadKept { .. } => {
             format!("accepted, year sum {}", figures.get(1)?)
         }
-        Call::Write { .. } | Call::Refile { .. } | Call::RefileKept { .. } => {
+        Call::ReadSheet { .. } | Call::ReadSheetKept { .. } => {
+            format!("accepted, {}", entries(*figures.get(1)?))
+        }
+        Call::Write { .. }
+        | Call::Refile { .. }
+        | Call::RefileKept { .. }
+        | Call::WriteSheet { .. } => {
             format!("{} bytes, buffer sum {}", first?, figures.get(1)?)
         }
-        Call::Print { .. } => format!("text of {} bytes, sum {}", first?, figures.get(1)?),
+        Call::Print { .. } | Call::PrintMinute { .. } | Call::PrintOutage { .. } => {
+            format!("text of {} bytes, sum {}", first?, figures.get(1)?)
+        }
         _ => "done".to_string(),
     })
 }
@@ -122,7 +131,7 @@ fn words_of_numbers(call: &Call, numbers: &[i128]) -> Option<String> {
         _ => (),
     }
     let (number, figures) = numbers.split_first()?;
-    if let (Call::ShowWrite { .. }, 0) = (call, *number) {
+    if let (Call::ShowWrite { .. } | Call::ShowSheet { .. }, 0) = (call, *number) {
         let (length, bytes) = figures.split_first()?;
         let written = bytes.get(..usize::try_from(*length).ok()?)?;
         let digits: String = written.iter().map(|byte| format!("{byte:02x}")).collect();
@@ -132,7 +141,10 @@ fn words_of_numbers(call: &Call, numbers: &[i128]) -> Option<String> {
         return figure_words(call, figures);
     }
     let place = match call {
-        Call::Read { .. } | Call::ReadKept { .. } => format!(" at place {}", figures.first()?),
+        Call::Read { .. }
+        | Call::ReadKept { .. }
+        | Call::ReadSheet { .. }
+        | Call::ReadSheetKept { .. } => format!(" at place {}", figures.first()?),
         _ => String::new(),
     };
     Some(format!("refused {number}{place}: {}", refusal_words(*number)))
@@ -167,13 +179,21 @@ mod tests {
             "2020-01-01 00:00 to 2021-01-01 00:00",
         );
         assert_eq!(words("target 2", "0 1"), "met");
-        assert_eq!(words("read 0 00", "13 0 5"), "refused 13 at place 0: return malformed");
+        assert_eq!(
+            words("read 0 00", "13 0 5"),
+            "refused 13 at place 0: return or day sheet malformed"
+        );
         assert_eq!(words("set-count 0 0", "0"), "done");
         assert_eq!(words("show-log", "malformed 12"), "malformed at place 12 of the script");
         assert_eq!(words("levels 0", "what"), "what");
         assert_eq!(
             words("show-write 0 3", "14 0 0 1 2"),
-            "refused 14: no room for the written return"
+            "refused 14: no room for the written return or day sheet"
         );
+        assert_eq!(words("read-sheet 0 00", "0 0 1 99"), "accepted, 1 entry");
+        let misfit = "refused 15 at place 26: a piece of a day sheet that does not fit";
+        assert_eq!(words("read-sheet-kept 0", "15 26 0 99"), misfit);
+        assert_eq!(words("show-sheet 4", "0 2 20 21 253 252"), "2 bytes: 1415");
+        assert_eq!(words("print-minute 0", "0 16 99"), "text of 16 bytes, sum 99");
     }
 }

@@ -3,20 +3,24 @@
 use std::collections::BTreeMap;
 use std::fs;
 use std::io::{self, BufRead, BufReader, Read, Write};
+use std::ops::RangeInclusive;
 use std::process::{Child, ChildStdin, Command, Stdio};
 use std::sync::mpsc;
 use std::thread;
 
 use crate::answers::{answer_words, refusal_words};
 use crate::generate::{Block, Generator};
-use crate::model::daysheet;
+use crate::model::{daysheet, oldsheet};
 use crate::script::Call;
 use crate::words::{call_words, parse_line, word};
 
 /// Where the script of a difference is written.
 const DIFFERENCE: &str = "target/twin-difference.script";
 /// The last tag of a call of the library; those above it set and show.
-const LAST_CALL: u8 = 22;
+const LAST_CALL: u8 = 27;
+/// The tags of calls on returns; those from there to the last are on day sheets
+/// and dates.
+const RETURNS: RangeInclusive<u8> = 17..=22;
 /// How many wrong figures are shown one by one.
 const SHOWN_DIFFERENCES: usize = 10;
 
@@ -69,7 +73,7 @@ fn write_script(seed: u64, least: u64, parts: mpsc::Sender<Part>, mut stdin: Chi
         let mut script = Vec::new();
         for (call, _) in &block.calls {
             calls += (call.tag() <= LAST_CALL) as u64;
-            returns += (17..=LAST_CALL).contains(&call.tag()) as u64;
+            returns += RETURNS.contains(&call.tag()) as u64;
             script.extend(call.encode());
         }
         place += script.len();
@@ -89,6 +93,7 @@ fn write_script(seed: u64, least: u64, parts: mpsc::Sender<Part>, mut stdin: Chi
 struct Tally {
     calls: u64,
     returns: u64,
+    sheets: u64,
     numbers: BTreeMap<u8, BTreeMap<u8, u64>>,
     others: u64,
 }
@@ -101,7 +106,8 @@ impl Tally {
             return;
         }
         self.calls += 1;
-        self.returns += (tag >= 17) as u64;
+        self.returns += RETURNS.contains(&tag) as u64;
+        self.sheets += (tag > *RETURNS.end()) as u64;
         let number = answer.split(' ').next().and_then(|number| number.parse().ok()).unwrap_or(0);
         *self.numbers.entry(tag).or_default().entry(number).or_default() += 1;
     }
@@ -115,7 +121,7 @@ impl Tally {
             };
             let row: Vec<String> =
                 numbers.iter().map(|(number, times)| format!("{} {times}", name(number))).collect();
-            println!("{tag:2} {:13} {all:7} calls: {}", word(*tag), row.join(", "));
+            println!("{tag:2} {:15} {all:7} calls: {}", word(*tag), row.join(", "));
         }
         println!("   setting and showing {} calls", self.others);
     }
@@ -206,8 +212,8 @@ pub fn compare(seed: u64, least: u64, command: &[String]) -> Outcome {
     child.wait().map_err(|error| error.to_string())?;
     tally.print();
     println!(
-        "twin: {} calls compared, {} of them returns, 0 differences",
-        tally.calls, tally.returns
+        "twin: {} calls compared, {} of them returns, {} day sheets and dates, 0 differences",
+        tally.calls, tally.returns, tally.sheets
     );
     Ok(true)
 }
@@ -217,7 +223,7 @@ pub fn malformed(seed: u64, count: u64, command: &[String]) -> Outcome {
     let mut generator = Generator::new(seed);
     for number in 1..=count {
         let block = generator.next_block();
-        let start = block.calls.len().min(7);
+        let start = block.calls.len().min(8);
         let mut script: Vec<u8> =
             block.calls[..start].iter().flat_map(|(call, _)| call.encode()).collect();
         let mut expected: String =
@@ -238,30 +244,51 @@ pub fn malformed(seed: u64, count: u64, command: &[String]) -> Outcome {
 
 /// Compares a program that prints returns.
 pub fn texts(seed: u64, count: u64, command: &[String]) -> Outcome {
+    compare_texts(seed, count, command, Generator::some_return, daysheet::text)
+}
+
+/// Compares a program that prints old day sheets.
+pub fn sheets(seed: u64, count: u64, command: &[String]) -> Outcome {
+    compare_texts(seed, count, command, Generator::printed_sheet, oldsheet::text)
+}
+
+/// Compares a program's text of each of so many inputs with the model's.
+fn compare_texts(
+    seed: u64,
+    count: u64,
+    command: &[String],
+    make: fn(&mut Generator) -> Vec<u8>,
+    text: fn(&[u8]) -> String,
+) -> Outcome {
     let mut generator = Generator::new(seed);
     let mut heads: BTreeMap<String, u64> = BTreeMap::new();
     for number in 1..=count {
-        let bytes = generator.some_return();
-        let expected = daysheet::text(&bytes);
+        let bytes = make(&mut generator);
+        let expected = text(&bytes);
         let found = run(command, bytes.clone())?;
         if found != expected.as_bytes() {
-            let path = "target/twin-difference.return";
+            let path = "target/twin-difference.input";
             save(path, &bytes)?;
-            println!(
-                "twin: a difference at text {number} of seed {seed}, its return is in {path}"
-            );
+            println!("twin: a difference at text {number} of seed {seed}, its input is in {path}");
             println!("model:\n{expected}program:\n{}", String::from_utf8_lossy(&found));
             return Ok(false);
         }
-        let head = expected.lines().next().unwrap();
-        let head = if head.starts_with("year") { "printed in full" } else { head };
-        *heads.entry(head.to_string()).or_default() += 1;
+        *heads.entry(head_of(&expected)).or_default() += 1;
     }
     for (head, times) in heads {
         println!("{head}: {times}");
     }
     println!("twin: {count} texts compared, 0 differences");
     Ok(true)
+}
+
+/// What is counted of a text: a refusal by its number, any other as printed.
+fn head_of(text: &str) -> String {
+    if text.starts_with("refused") {
+        text.split_whitespace().take(2).collect::<Vec<_>>().join(" ")
+    } else {
+        "printed in full".to_string()
+    }
 }
 
 /// The calls of a text, each with its line's number; a wrong line is named.
@@ -305,13 +332,16 @@ pub fn answers(path: &str) -> Outcome {
     let mut calls = calls.into_iter().peekable();
     let mut complete = true;
     for (place, line) in text.lines().enumerate() {
-        match calls.next_if(|(at, _)| *at == place) {
+        // Of a line that is several calls, the answer to the last.
+        let mut shown = None;
+        while let Some((_, call)) = calls.next_if(|(at, _)| *at == place) {
+            let answer = given.next().map(|answer| answer_words(&call, answer));
+            complete = complete && answer.is_some();
+            shown = Some(answer.unwrap_or_else(|| "no answer".to_string()));
+        }
+        match shown {
             None => println!("{line}"),
-            Some((_, call)) => {
-                let answer = given.next().map(|answer| answer_words(&call, answer));
-                complete = complete && answer.is_some();
-                println!("{} -> {}", line.trim_end(), answer.as_deref().unwrap_or("no answer"));
-            }
+            Some(answer) => println!("{} -> {answer}", line.trim_end()),
         }
     }
     if given.next().is_some() {

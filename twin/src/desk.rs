@@ -7,12 +7,14 @@ use std::io::{self, BufRead, Write};
 use crate::model::assessment::{assess, assess_period, Assessment};
 use crate::model::book::Book;
 use crate::model::calendar::year_minutes;
+use crate::model::dates::{minute_text, outage_text};
 use crate::model::daysheet;
 use crate::model::growth::growth;
 use crate::model::levels::{availability, levels, target_met};
 use crate::model::log::Log;
 use crate::model::revenue::assessed_revenue;
 use crate::model::settlement::{gap, payment, reconcile, settle};
+use crate::model::sheet;
 use crate::model::sums::{byte_sum, log_sum, year_sum};
 use crate::model::year::Year;
 use crate::model::yearly_return::{read, write_into};
@@ -62,14 +64,33 @@ fn lent_buffer(room: usize) -> Vec<u8> {
     (0..room.min(KEPT)).map(|i| (255 - i % 251) as u8).collect()
 }
 
+/// The answer of a writing into a lent buffer: the number, the length and the
+/// buffer's sum.
+fn written_sum(room: usize, write: impl FnOnce(&mut [u8]) -> (Refusal, usize)) -> String {
+    let mut buffer = lent_buffer(room);
+    let (number, length) = write(&mut buffer);
+    row([number as i128, length as i128, byte_sum(&buffer) as i128])
+}
+
+/// The same with every byte of the buffer in the place of its sum.
+fn written_bytes(room: u16, write: impl FnOnce(&mut [u8]) -> (Refusal, usize)) -> String {
+    let mut buffer = lent_buffer(room as usize);
+    let (number, length) = write(&mut buffer);
+    let head = [number as i128, length as i128];
+    row(head.into_iter().chain(buffer.iter().map(|byte| *byte as i128)))
+}
+
 /// The answer of a return read and written again.
 fn refile_answer(bytes: &[u8], room: usize) -> String {
-    let mut buffer = lent_buffer(room);
-    let (number, length) = match read(bytes) {
-        Ok(year) => write_into(&year, &mut buffer),
+    written_sum(room, |buffer| match read(bytes) {
+        Ok(year) => write_into(&year, buffer),
         Err(_) => (13, 0),
-    };
-    row([number as i128, length as i128, byte_sum(&buffer) as i128])
+    })
+}
+
+/// The answer of a text, which is empty beside a refusal.
+fn text_answer(answer: Result<String, Refusal>) -> String {
+    figures(answer.map(|text| [text.len() as i128, byte_sum(text.as_bytes()) as i128]))
 }
 
 fn log_numbers(log: &Log) -> Vec<i128> {
@@ -138,6 +159,19 @@ impl Desk {
         row([number, place, year_sum(self.year(k)) as i128])
     }
 
+    /// Reads a day sheet into the log that stands, and gives the answer.
+    fn read_sheet(&mut self, regime_end: u32, bytes: &[u8]) -> String {
+        let (number, place, log) = match sheet::read(regime_end, bytes) {
+            Ok(log) => (0, 0, log),
+            Err((refusal, place)) => {
+                (refusal, place, Log::empty(regime_end).unwrap_or_else(|_| Log::fresh()))
+            }
+        };
+        self.log = log;
+        let (count, sum) = (self.log.count as i128, log_sum(&self.log) as i128);
+        row([number as i128, place as i128, count, sum])
+    }
+
     fn year(&mut self, k: u8) -> &mut Year {
         &mut self.years[k as usize]
     }
@@ -189,24 +223,26 @@ impl Desk {
             Call::Read { k, bytes } => self.read_into(*k, bytes),
             Call::ReadKept { k } => self.read_into(*k, &self.kept.clone()),
             Call::Write { k, room } => {
-                let mut buffer = lent_buffer(*room as usize);
-                let (number, length) = write_into(self.year(*k), &mut buffer);
-                row([number as i128, length as i128, byte_sum(&buffer) as i128])
+                written_sum(*room as usize, |buffer| write_into(self.year(*k), buffer))
             }
             Call::Refile { room, bytes } => refile_answer(bytes, *room as usize),
             Call::RefileKept { room } => refile_answer(&self.kept, *room as usize),
-            Call::Print { bytes } => {
-                let text = daysheet::text(bytes);
-                row([0, text.len() as i128, byte_sum(text.as_bytes()) as i128])
+            Call::Print { bytes } => text_answer(Ok(daysheet::text(bytes))),
+            Call::ReadSheet { regime_end, bytes } => self.read_sheet(*regime_end, bytes),
+            Call::ReadSheetKept { regime_end } => self.read_sheet(*regime_end, &self.kept.clone()),
+            Call::WriteSheet { room } => {
+                written_sum(*room as usize, |buffer| sheet::write_into(&self.log, buffer))
             }
+            Call::PrintMinute { minute } => text_answer(minute_text(*minute)),
+            Call::PrintOutage { outage } => text_answer(outage_text(outage)),
             Call::ShowLog => row(log_numbers(&self.log)),
             Call::ShowYear { k } => row(year_numbers(self.year(*k))),
             Call::ShowBook => row(book_numbers(&self.book)),
             Call::ShowWrite { k, room } => {
-                let mut buffer = lent_buffer(*room as usize);
-                let (number, length) = write_into(self.year(*k), &mut buffer);
-                let head = [number as i128, length as i128];
-                row(head.into_iter().chain(buffer.iter().map(|byte| *byte as i128)))
+                written_bytes(*room, |buffer| write_into(self.year(*k), buffer))
+            }
+            Call::ShowSheet { room } => {
+                written_bytes(*room, |buffer| sheet::write_into(&self.log, buffer))
             }
             setting => {
                 self.set(setting);
@@ -296,7 +332,7 @@ mod tests {
         );
         assert_eq!(answers(&script), expected);
         let length = script.len();
-        script.extend([23, 0, 0, 48, 0, 0]);
+        script.extend([28, 0, 0, 48, 0, 0]);
         assert_eq!(answers(&script), format!("{expected}malformed {length}\n"));
     }
 
@@ -344,6 +380,25 @@ mod tests {
         assert!(desk.carry_out(&Call::ReadKept { k: 1 }).starts_with("13 8192 "));
         assert_eq!(desk.carry_out(&Call::Forget), "0");
         assert!(desk.carry_out(&Call::ReadKept { k: 1 }).starts_with("13 0 "));
+    }
+
+    #[test]
+    fn a_refused_sheet_leaves_the_empty_log_for_its_regime_end() {
+        let mut desk = Desk::new();
+        let night = [20, 0, 10, 0, 0, 5, 160, 0, 0, 5, 170, 0, 7];
+        let read = |regime_end, bytes: &[u8]| Call::ReadSheet { regime_end, bytes: bytes.to_vec() };
+        assert!(desk.carry_out(&read(13_000_000, &night)).starts_with("0 0 1 "));
+        assert!(desk.carry_out(&Call::WriteSheet { room: 13 }).starts_with("0 13 "));
+        let twice = [night, night].concat();
+        let empty = Log::empty(13_000_000).unwrap();
+        let answer = desk.carry_out(&read(13_000_000, &twice));
+        assert_eq!(answer, format!("4 13 0 {}", log_sum(&empty)));
+        assert_eq!(desk.log, empty);
+        desk.carry_out(&Call::Keep { bytes: twice });
+        let answer = desk.carry_out(&Call::ReadSheetKept { regime_end: 1 });
+        assert_eq!(answer, format!("8 0 0 {}", log_sum(&Log::fresh())));
+        assert_eq!(desk.carry_out(&Call::ShowSheet { room: 2 }), "0 0 255 254");
+        assert_eq!(desk.carry_out(&Call::PrintMinute { minute: 13_632_481 }), "7 0 0");
     }
 
     #[test]

@@ -7,6 +7,7 @@ mod random;
 mod records;
 mod returns;
 mod settlements;
+mod sheets;
 mod values;
 
 use crate::desk::Desk;
@@ -40,7 +41,7 @@ impl Generator {
     }
 
     pub fn next_block(&mut self) -> Block {
-        match self.random.below(24) {
+        match self.random.below(27) {
             0..=3 => self.block("log", Generator::log_work),
             4 | 5 => self.block("full log", Generator::full_log_work),
             6 | 7 => self.block("broken log", Generator::broken_log_work),
@@ -51,6 +52,7 @@ impl Generator {
             17 | 18 => self.block("period", Generator::period_work),
             19 => self.block("settlement", Generator::settlement_work),
             20..=22 => self.return_block(),
+            23..=25 => self.block("day sheets", Generator::sheet_work),
             _ => self.block("anything", Generator::any_work),
         }
     }
@@ -75,6 +77,7 @@ impl Generator {
         for k in 0..5 {
             self.call(Call::FreshYear { k });
         }
+        self.call(Call::Forget);
     }
 
     /// Shows all that stands.
@@ -85,6 +88,8 @@ impl Generator {
         self.call(Call::ShowYear { k });
         self.call(Call::ShowBook);
         self.call(Call::ShowWrite { k, room });
+        let room = self.sheet_room().min(1_000) as u16;
+        self.call(Call::ShowSheet { room });
     }
 
     fn any_k(&mut self) -> u8 {
@@ -96,10 +101,10 @@ impl Generator {
         let random = &mut self.random;
         let k_tags = [8, 9, 21, 37, 38, 39, 49];
         let mut field = match random.below(10) {
-            0 => vec![random.pick(&[0, 23, 31, 42, 47, 52, 255]), 0, 0],
+            0 => vec![random.pick(&[0, 28, 31, 42, 47, 53, 255]), 0, 0],
             1 => vec![random.pick(&k_tags), 0, 1, random.pick(&[5, 255])],
             2 => vec![random.pick(&[18, 51]), 0, 3, 5, 0, 0],
-            3 => vec![random.pick(&[17, 19]), 0, 0],
+            3 => vec![random.pick(&[17, 19, 23]), 0, 0],
             4 => vec![17, 0, 2, 5, 1],
             5 => {
                 let slot = random.pick(&[400u16, 401, 65_535]).to_be_bytes();
@@ -125,7 +130,7 @@ impl Generator {
     /// A field whose length is not that of its tag, or a field that is cut.
     fn wrong_length(&mut self) -> Vec<u8> {
         let mut block = self.block("anything", Generator::any_work);
-        block.calls.retain(|(call, _)| ![17, 19, 20, 40].contains(&call.tag()));
+        block.calls.retain(|(call, _)| ![17, 19, 20, 23, 40].contains(&call.tag()));
         let (call, _) = self.random.pick(&block.calls);
         let mut field = call.encode();
         if self.random.one_in(2) {
@@ -203,7 +208,7 @@ mod tests {
     /// it can give (READINGS, the table of checks).
     #[test]
     fn every_refusal_is_frequent() {
-        let expected: [(u8, &[&str]); 21] = [
+        let expected: [(u8, &[&str]); 26] = [
             (1, &["0", "8"]),
             (2, &["0", "1", "2", "3", "4", "5"]),
             (3, &["0", "1", "6"]),
@@ -225,10 +230,15 @@ mod tests {
             (19, &["0", "13", "14"]),
             (21, &["0", "13"]),
             (22, &["0", "13", "14"]),
+            (23, &["0", "8", "13", "15", "2", "3", "4", "5"]),
+            (24, &["0", "8", "13", "15", "2", "3", "4", "5"]),
+            (25, &["0", "1", "14"]),
+            (26, &["0", "7"]),
+            (27, &["0", "7"]),
         ];
         let mut seen: BTreeMap<(u8, String), u64> = BTreeMap::new();
         let mut generator = Generator::new(1);
-        for _ in 0..300 {
+        for _ in 0..600 {
             for (call, answer) in generator.next_block().calls {
                 let number = answer.split(' ').next().unwrap().to_string();
                 *seen.entry((call.tag(), number)).or_default() += 1;

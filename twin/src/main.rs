@@ -16,6 +16,7 @@ const USAGE: &str = "use:
   twin compare SEED CALLS COMMAND..     compares COMMAND's answers to scripts with the model's
   twin malformed SEED COUNT COMMAND..   the same, on scripts that end in a malformed field
   twin texts SEED COUNT COMMAND..       compares COMMAND's texts of returns with the model's
+  twin sheets SEED COUNT COMMAND..      compares COMMAND's texts of old day sheets with the model's
   twin figures FILE COMMAND..           compares COMMAND's answers with those in a text
   twin script < TEXT > SCRIPT           turns readable text into a script
   twin answers TEXT < ANSWERS           prints a text with its answers
@@ -25,13 +26,14 @@ const USAGE: &str = "use:
 fn carry_out(arguments: &[String]) -> Option<Result<bool, String>> {
     let words: Vec<&str> = arguments.iter().map(String::as_str).collect();
     Some(match words[..] {
-        ["compare" | "malformed" | "texts", seed, count, _, ..] => {
+        ["compare" | "malformed" | "texts" | "sheets", seed, count, _, ..] => {
             let (seed, count) = (seed.parse().ok()?, count.parse().ok()?);
             let command = &arguments[3..];
             match words[0] {
                 "compare" => commands::compare(seed, count, command),
                 "malformed" => commands::malformed(seed, count, command),
-                _ => commands::texts(seed, count, command),
+                "texts" => commands::texts(seed, count, command),
+                _ => commands::sheets(seed, count, command),
             }
         }
         ["figures", file, _, ..] => commands::figures(file, &arguments[2..]),

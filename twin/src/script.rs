@@ -66,6 +66,11 @@ pub enum Call {
     Print { bytes: Vec<u8> },
     ReadKept { k: u8 },
     RefileKept { room: u32 },
+    ReadSheet { regime_end: u32, bytes: Vec<u8> },
+    ReadSheetKept { regime_end: u32 },
+    WriteSheet { room: u32 },
+    PrintMinute { minute: u32 },
+    PrintOutage { outage: Slot },
     SetSlot { slot: u16, outage: Slot },
     SetCount { count: u64, regime_end: u32 },
     SetBook { book: Book },
@@ -80,6 +85,7 @@ pub enum Call {
     ShowYear { k: u8 },
     ShowBook,
     ShowWrite { k: u8, room: u16 },
+    ShowSheet { room: u16 },
 }
 
 impl Call {
@@ -107,6 +113,11 @@ impl Call {
             Call::Print { .. } => 20,
             Call::ReadKept { .. } => 21,
             Call::RefileKept { .. } => 22,
+            Call::ReadSheet { .. } => 23,
+            Call::ReadSheetKept { .. } => 24,
+            Call::WriteSheet { .. } => 25,
+            Call::PrintMinute { .. } => 26,
+            Call::PrintOutage { .. } => 27,
             Call::SetSlot { .. } => 32,
             Call::SetCount { .. } => 33,
             Call::SetBook { .. } => 34,
@@ -121,6 +132,7 @@ impl Call {
             Call::ShowYear { .. } => 49,
             Call::ShowBook => 50,
             Call::ShowWrite { .. } => 51,
+            Call::ShowSheet { .. } => 52,
         }
     }
 
@@ -136,8 +148,10 @@ impl Call {
 
     fn put(&self, value: &mut Value) {
         match self {
-            Call::Empty { regime_end } => value.u32(*regime_end),
-            Call::Enter { outage } => value.outage(outage),
+            Call::Empty { regime_end } | Call::ReadSheetKept { regime_end } => {
+                value.u32(*regime_end)
+            }
+            Call::Enter { outage } | Call::PrintOutage { outage } => value.outage(outage),
             Call::Cancel { start } => value.u32(*start),
             Call::Lost { a, b } => {
                 value.u32(*a);
@@ -185,7 +199,13 @@ impl Call {
                 value.0.extend(bytes);
             }
             Call::Print { bytes } | Call::Keep { bytes } => value.0.extend(bytes),
-            Call::RefileKept { room } => value.u32(*room),
+            Call::RefileKept { room } | Call::WriteSheet { room } => value.u32(*room),
+            Call::ReadSheet { regime_end, bytes } => {
+                value.u32(*regime_end);
+                value.0.extend(bytes);
+            }
+            Call::PrintMinute { minute } => value.u32(*minute),
+            Call::ShowSheet { room } => value.u16(*room),
             Call::SetSlot { slot, outage } => {
                 value.u16(*slot);
                 value.outage(outage);
@@ -250,6 +270,11 @@ impl Call {
             20 => Call::Print { bytes: part.rest() },
             21 => Call::ReadKept { k: part.k()? },
             22 => Call::RefileKept { room: part.u32()? },
+            23 => Call::ReadSheet { regime_end: part.u32()?, bytes: part.rest() },
+            24 => Call::ReadSheetKept { regime_end: part.u32()? },
+            25 => Call::WriteSheet { room: part.u32()? },
+            26 => Call::PrintMinute { minute: part.u32()? },
+            27 => Call::PrintOutage { outage: part.outage()? },
             32 => {
                 let slot = part.u16()?;
                 if slot as usize >= SLOTS {
@@ -277,6 +302,7 @@ impl Call {
             49 => Call::ShowYear { k: part.k()? },
             50 => Call::ShowBook,
             51 => Call::ShowWrite { k: part.k()?, room: part.u16()? },
+            52 => Call::ShowSheet { room: part.u16()? },
             _ => return None,
         };
         part.0.is_empty().then_some(call)
@@ -498,6 +524,9 @@ mod tests {
         assert!(Call::decode(8, &[4]).is_some());
         assert_eq!(Call::decode(17, &[]), None);
         assert!(Call::decode(20, &[]).is_some());
+        assert_eq!(Call::decode(23, &[0; 3]), None);
+        assert!(Call::decode(23, &[0; 4]).is_some());
+        assert_eq!(Call::decode(24, &[0; 5]), None);
         assert_eq!(Call::decode(32, &[1, 144, 0, 0, 0, 0, 0, 0, 0, 0, 0, 0]), None);
         assert!(Call::decode(32, &[1, 143, 0, 0, 0, 0, 0, 0, 0, 0, 0, 0]).is_some());
         assert_eq!(Call::decode(36, &[0, 64, 0, 0, 0, 0, 0, 0, 0, 0, 0, 0]), None);

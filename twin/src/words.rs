@@ -2,9 +2,11 @@
 
 use crate::model::assessment::Row;
 use crate::model::book::Book;
-use crate::model::calendar::{date_of_minute, day_number, minute_of_date};
-use crate::model::log::{Slot, LAST_REGIME_END, SLOTS};
+use crate::model::calendar::{day_number, minute_of_date};
+use crate::model::dates::minute_text;
+use crate::model::log::{Slot, SLOTS};
 use crate::model::settlement::Period;
+use crate::model::sheet::{joined, Piece};
 use crate::model::year::{Line, LINES};
 use crate::script::{Call, YearFields, KEPT};
 
@@ -33,6 +35,11 @@ pub fn word(tag: u8) -> &'static str {
         20 => "print",
         21 => "read-kept",
         22 => "refile-kept",
+        23 => "read-sheet",
+        24 => "read-sheet-kept",
+        25 => "write-sheet",
+        26 => "print-minute",
+        27 => "print-outage",
         32 => "set-slot",
         33 => "set-count",
         34 => "set-book",
@@ -47,17 +54,15 @@ pub fn word(tag: u8) -> &'static str {
         49 => "show-year",
         50 => "show-book",
         51 => "show-write",
+        52 => "show-sheet",
         _ => "?",
     }
 }
 
 /// A minute as date and time, UTC; past the last regime end as a number.
 pub fn time_words(minute: i128) -> String {
-    if !(0..=LAST_REGIME_END as i128).contains(&minute) {
-        return minute.to_string();
-    }
-    let (year, month, day, hour, rest) = date_of_minute(minute);
-    format!("{year:04}-{month:02}-{day:02} {hour:02}:{rest:02}")
+    let text = u32::try_from(minute).ok().and_then(|minute| minute_text(minute).ok());
+    text.unwrap_or_else(|| minute.to_string())
 }
 
 fn hexadecimal(bytes: &[u8]) -> String {
@@ -173,19 +178,49 @@ impl<'a> Words<'a> {
         Ok(Period { first: self.day("the first day")?, last: self.day("the last day")? })
     }
 
+    /// Whether a piece of a day sheet is marked as continued.
+    fn continued(&mut self) -> Result<bool, String> {
+        match self.next("fresh or continued")? {
+            "fresh" => Ok(false),
+            "continued" => Ok(true),
+            other => Err(format!("a piece is fresh or continued, not {other}")),
+        }
+    }
+
+    /// A piece of a day sheet.
+    fn piece(&mut self) -> Result<Piece, String> {
+        Ok(Piece { continued: self.continued()?, part: self.outage()? })
+    }
+
+    /// `COUNT START STEP LENGTH MW`: so many outages, a step of minutes apart.
+    fn outages(&mut self) -> Result<Vec<Slot>, String> {
+        let count: u32 = self.number("how many")?;
+        let start = self.minute("the first start")?;
+        let step: u32 = self.number("the step")?;
+        let length: u32 = self.number("the length")?;
+        let mw: u16 = self.number("the MW")?;
+        let outage = |place: u32| {
+            let start = start.checked_add(place.checked_mul(step)?)?;
+            Some(Slot { start, end: start.checked_add(length)?, mw })
+        };
+        (0..count)
+            .map(|place| outage(place).ok_or_else(|| "the minutes do not fit".to_string()))
+            .collect()
+    }
+
     /// The rest of the line as bytes.
     fn bytes(&mut self) -> Result<Vec<u8>, String> {
         let digits: String = self.left.by_ref().collect();
         if digits.len() % 2 != 0 || !digits.bytes().all(|digit| digit.is_ascii_hexdigit()) {
-            return Err("the return is not in pairs of hexadecimal digits".to_string());
+            return Err("the bytes are not in pairs of hexadecimal digits".to_string());
         }
         let byte = |place: usize| u8::from_str_radix(&digits[place..place + 2], 16).unwrap();
         Ok((0..digits.len()).step_by(2).map(byte).collect())
     }
 }
 
-/// The words of lines that are several calls.
-const FILLING: [&str; 3] = ["fill", "fill-lines", "fill-kept"];
+/// The words of lines that are several calls, or a call under another word.
+const FILLING: [&str; 5] = ["fill", "fill-lines", "fill-kept", "fill-pieces", "keep-piece"];
 
 /// The calls of a line: none where the line is a comment, an expected answer
 /// or blank, several where it fills a log, a year's lines or the kept bytes.
@@ -198,33 +233,36 @@ pub fn parse_line(line: &str) -> Result<Vec<Call>, String> {
     let calls = match words.left.next_if(|word| FILLING.contains(word)) {
         Some("fill") => filling(&mut words)?,
         Some("fill-kept") => kept_filling(&mut words)?,
+        Some("fill-pieces") => piece_filling(&mut words)?,
+        Some("keep-piece") => keeping(words.piece()?.bytes()),
         Some(_) => line_filling(&mut words)?,
         None => vec![parse_call(&mut words)?],
     };
     match words.left.next() {
         Some(extra) => Err(format!("nothing is expected here: {extra}")),
         None if calls.iter().any(|call| call.encode().len() > 3 + u16::MAX as usize) => {
-            Err("the return is too long for a script".to_string())
+            Err("the bytes are too many for a field of a script".to_string())
         }
         None => Ok(calls),
     }
 }
 
-/// `fill COUNT START STEP LENGTH MW`: so many outages entered, a step of
-/// minutes apart.
+/// `fill COUNT START STEP LENGTH MW`: so many outages entered.
 fn filling(words: &mut Words) -> Result<Vec<Call>, String> {
-    let count: u32 = words.number("how many")?;
-    let start = words.minute("the first start")?;
-    let step: u32 = words.number("the step")?;
-    let length: u32 = words.number("the length")?;
-    let mw: u16 = words.number("the MW")?;
-    let outage = |place: u32| {
-        let start = start.checked_add(place.checked_mul(step)?)?;
-        Some(Call::Enter { outage: Slot { start, end: start.checked_add(length)?, mw } })
-    };
-    (0..count)
-        .map(|place| outage(place).ok_or_else(|| "the minutes do not fit".to_string()))
-        .collect()
+    Ok(words.outages()?.into_iter().map(|outage| Call::Enter { outage }).collect())
+}
+
+/// `fill-pieces KIND COUNT START STEP LENGTH MW`: so many pieces of a day sheet
+/// more are kept.
+fn piece_filling(words: &mut Words) -> Result<Vec<Call>, String> {
+    let continued = words.continued()?;
+    let pieces = words.outages()?.into_iter().map(|part| Piece { continued, part });
+    Ok(keeping(joined(&pieces.collect::<Vec<_>>())))
+}
+
+/// Keeps bytes, in as many calls as it takes.
+fn keeping(bytes: Vec<u8>) -> Vec<Call> {
+    bytes.chunks(u16::MAX as usize).map(|part| Call::Keep { bytes: part.to_vec() }).collect()
 }
 
 /// `fill-lines K COUNT KIND CURRENCY AMOUNT`: the first so many line slots of
@@ -246,8 +284,7 @@ fn kept_filling(words: &mut Words) -> Result<Vec<Call>, String> {
     if count as usize > KEPT {
         return Err(format!("at most {KEPT} bytes are kept"));
     }
-    let bytes = vec![byte; count as usize];
-    Ok(bytes.chunks(u16::MAX as usize).map(|part| Call::Keep { bytes: part.to_vec() }).collect())
+    Ok(keeping(vec![byte; count as usize]))
 }
 
 fn parse_call(words: &mut Words) -> Result<Call, String> {
@@ -292,6 +329,13 @@ fn parse_call(words: &mut Words) -> Result<Call, String> {
         "print" => Call::Print { bytes: words.bytes()? },
         "read-kept" => Call::ReadKept { k: words.k()? },
         "refile-kept" => Call::RefileKept { room: words.number("the room")? },
+        "read-sheet" => {
+            Call::ReadSheet { regime_end: words.minute("the regime end")?, bytes: words.bytes()? }
+        }
+        "read-sheet-kept" => Call::ReadSheetKept { regime_end: words.minute("the regime end")? },
+        "write-sheet" => Call::WriteSheet { room: words.number("the room")? },
+        "print-minute" => Call::PrintMinute { minute: words.minute("the minute")? },
+        "print-outage" => Call::PrintOutage { outage: words.outage()? },
         "set-slot" => {
             let slot = words.number("the slot")?;
             if slot as usize >= SLOTS {
@@ -351,6 +395,7 @@ fn parse_call(words: &mut Words) -> Result<Call, String> {
         "show-year" => Call::ShowYear { k: words.k()? },
         "show-book" => Call::ShowBook,
         "show-write" => Call::ShowWrite { k: words.k()?, room: words.number("the room")? },
+        "show-sheet" => Call::ShowSheet { room: words.number("the room")? },
         other => return Err(format!("no such call: {other}")),
     })
 }
@@ -368,8 +413,8 @@ fn days_words(earlier: &Period, later: &Period) -> String {
 pub fn call_words(call: &Call) -> String {
     let time = |minute: &u32| time_words(*minute as i128);
     let rest = match call {
-        Call::Empty { regime_end } => time(regime_end),
-        Call::Enter { outage } => outage_words(outage),
+        Call::Empty { regime_end } | Call::ReadSheetKept { regime_end } => time(regime_end),
+        Call::Enter { outage } | Call::PrintOutage { outage } => outage_words(outage),
         Call::Cancel { start } => time(start),
         Call::Lost { a, b } => format!("{} {}", time(a), time(b)),
         Call::Minutes { year, regime_end } => format!("{year} {}", time(regime_end)),
@@ -399,7 +444,12 @@ pub fn call_words(call: &Call) -> String {
         Call::Write { k, room } | Call::ShowWrite { k, room } => format!("{k} {room}"),
         Call::Refile { room, bytes } => format!("{room} {}", hexadecimal(bytes)),
         Call::Print { bytes } | Call::Keep { bytes } => hexadecimal(bytes),
-        Call::RefileKept { room } => room.to_string(),
+        Call::RefileKept { room } | Call::WriteSheet { room } => room.to_string(),
+        Call::ReadSheet { regime_end, bytes } => {
+            format!("{} {}", time(regime_end), hexadecimal(bytes))
+        }
+        Call::PrintMinute { minute } => time(minute),
+        Call::ShowSheet { room } => room.to_string(),
         Call::SetSlot { slot, outage } => format!("{slot} {}", outage_words(outage)),
         Call::SetCount { count, regime_end } => format!("{count} {}", time(regime_end)),
         Call::SetBook { book: b } => format!(
@@ -456,6 +506,15 @@ mod tests {
         assert!(parse_line("fill-lines 0 65 1 0 5").is_err());
         assert_eq!(parse_line("fill-kept 65536 7").map(|calls| calls.len()), Ok(2));
         assert!(parse_line("fill-kept 262145 7").is_err());
+        assert_eq!(
+            parse_line("keep-piece continued 2019-02-01 00:00 1441 256"),
+            parse_line("keep 15000a000005a0000005a10100"),
+        );
+        assert_eq!(
+            parse_line("fill-pieces fresh 2 0 10 5 1"),
+            parse_line("keep 14000a00000000000000050001 14000a0000000a0000000f0001"),
+        );
+        assert_eq!(parse_line("fill-pieces fresh 5042 0 1 1 1").map(|calls| calls.len()), Ok(2));
         assert_eq!(parse_line(""), Ok(vec![]));
     }
 
@@ -473,6 +532,9 @@ mod tests {
             "levels 5",
             "read 0 123",
             "read 0 zz",
+            "keep-piece 0 1 1",
+            "fill-pieces fresh 2 4294967295 1 1 1",
+            "read-sheet 0 123",
             "set-slot 400 1 2 3",
             "set-line 0 64 1 0 5",
             "set-year 0 1 1 1 1 1 1 2 0 0",

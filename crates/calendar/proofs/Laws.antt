@@ -10,7 +10,7 @@ use Rattle.lists.proofs.Tests.{le-or-lt}
 use Rattle.calendar.specs.Years.{isLeap, daysIn, daysTo, yearStart, yearEnd, lastYear}
 
 -- a calendar year has at least 365 days
-least-days : (year : ℕ) → 365 ≤ daysIn year
+pub least-days : (year : ℕ) → 365 ≤ daysIn year
 least-days year = by (isLeap year)
   where
     by : (leap : Bool) → 365 ≤ cond leap 366 365

@@ -2,7 +2,7 @@
 use refusals::Refusal;
 ghost use mathlib.Core.Path.{_≡_};
 ghost use Prim.Native.Nat.{_≤_};
-ghost use Rattle.calendar.specs.Years.{endFigure, firstFigure, lastYear, yearStart, MinutesGives};
+ghost use Rattle.calendar.specs.Years.{endFigure, firstFigure, isLeap, lastYear, yearStart, MinutesGives};
 
 // The numbers of the first and the last Relevant Year.
 pub const FIRST_YEAR: u8 = 1;
@@ -64,6 +64,13 @@ impl YearMinutes {
             YearMinutes::Refused(_) => 0,
         }
     }
+}
+
+// Whether a calendar year has a leap day: 4 divides it, and 100 does not, unless 400 does.
+pub fn is_leap(year: u32) -> bool
+    ensures { λ r. ⌜ r ≡ isLeap year ⌝ }
+{
+    year % 400 == 0 || (year % 4 == 0 && year % 100 != 0)
 }
 
 // The first minute of a year from 1 to 25.

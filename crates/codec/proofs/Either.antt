@@ -13,9 +13,9 @@ use Rattle.lists.proofs.Tests.{and-left, and-right, and-made}
 use Rattle.codec.specs.Numbers.{bytesOf}
 use Rattle.codec.specs.Theorems.{Bytes}
 use Rattle.codec.specs.Fields.{head, framed}
-use Rattle.codec.specs.Theorems.{isWhole}
-use Rattle.codec.specs.Format.{Value, mapO, Item, field, fieldOf, one, opt}
-use Rattle.codec.specs.Shapes.{beside, firstFound, either, requiredIf}
+use Rattle.codec.specs.Theorems.{isWhole, requiredIf}
+use Rattle.codec.specs.Format.{Value, when, mapO, Item, field, fieldOf, one, opt}
+use Rattle.codec.specs.Shapes.{beside, firstFound, either}
 use Rattle.codec.proofs.Numbers.{spelled-bytes}
 use Rattle.codec.proofs.Values.{ValueLaws}
 use Rattle.codec.proofs.Items.{Over, over-le, ItemLaws}
@@ -23,6 +23,15 @@ use Rattle.codec.proofs.Formats.{Lawful}
 use Rattle.codec.proofs.Places.{Placed, Numbered}
 
 -- ---- a number beside a value
+-- what is found of it is the value and the number
+pub beside-field : {A : Type 0} (k : ℕ) (v : Value A) (tag : ℕ) (bs : List ℕ) → field tag (beside k v) bs ≡ mapO (λ (a : A). (a, k)) (field tag v bs)
+unfolding field
+beside-field {A} k v tag bs = by (framed tag (v .len) bs)
+  where
+    by : (t : Bool) → when {A = A × ℕ} t (mapO (λ (a : A). (a, k)) (v .get (drop 3 bs))) ≡ mapO (λ (a : A). (a, k)) (when t (v .get (drop 3 bs)))
+    by true = refl
+    by false = refl
+
 module _ {A : Type 0} (k : ℕ) (v : Value A) (l : ValueLaws v) where
   beside-there : (p : A × ℕ) (rest : List ℕ) → (v .fine (p .0) && eqb (p .1) k) ≡ true → mapO (λ (a : A). (a, k)) (v .get (v .put (p .0) ++ rest)) ≡ some p
   beside-there p rest h =
@@ -35,6 +44,16 @@ module _ {A : Type 0} (k : ℕ) (v : Value A) (l : ValueLaws v) where
       let q : _≡_ {A = A × ℕ} (a, k) p = cc in
       let m = l .back bs a b h e in
       rw (← q) (m .0, and-made (m .1) (eq-eqb k k refl))
+
+  -- the number beside what is found
+  pub beside-is : (tag : ℕ) (bs : List ℕ) (p : A × ℕ) → field tag (beside k v) bs ≡ some p → p .1 ≡ k
+  unfolding field
+  beside-is tag bs p e = by (framed tag (v .len) bs) (v .get (drop 3 bs)) e
+    where
+      by : (t : Bool) (o : Option A) → when t (mapO (λ (a : A). (a, k)) o) ≡ some p → p .1 ≡ k
+      by true (some a) e = let q : _≡_ {A = A × ℕ} (a, k) p = cc in sym (ap (λ (x : A × ℕ). x .1) q)
+      by true none e = absurd (let z : _≡_ {A = ℕ} 0 1 = cc in omega arith)
+      by false o e = absurd (let z : _≡_ {A = ℕ} 0 1 = cc in omega arith)
 
   pub beside-laws : ValueLaws (beside k v)
   beside-laws =

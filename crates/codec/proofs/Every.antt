@@ -147,6 +147,24 @@ module _ {A : Type 0} (f : List A → Item A) (rule : List A → A → ℕ) (l :
   by-alike (suc n) (suc m) before w r q s g h =
       step-alike n m before w r q s g (λ a u. by-alike n m (before ++ (a ∷ [])) u r q s) (f before .look (w ++ r)) refl h
 
+  -- ---- it stops by no number but one that the rule gives
+  module _ (Given : ℕ → Type 0) (gives : (before : List A) (a : A) (k : ℕ) → rule before a ≡ suc k → Given (suc k)) where
+    step-numbers : (n : ℕ) (before : List A) (bs : List ℕ) (why : ℕ) (rest : List ℕ) → ((a : A) → onward n before bs a ≡ stopped why rest → Given why) → (o : Option A) → step n before bs o ≡ stopped why rest → Given why
+    step-numbers n before bs why rest ih none e = absurd (let z : _≡_ {A = ℕ} 0 1 = cc in omega arith)
+    step-numbers n before bs why rest ih (some a) e = by (rule before a) refl e
+      where
+        by : (k : ℕ) → rule before a ≡ k → ruled bs k (onward n before bs a) ≡ stopped why rest → Given why
+        by zero h e = ih a e
+        by (suc k) h e = let w : suc k ≡ why = cc in subst Given w (gives before a k h)
+
+    scan-numbers : (n : ℕ) (before : List A) (bs : List ℕ) (why : ℕ) (rest : List ℕ) → scanBy f rule n before bs ≡ stopped why rest → Given why
+    unfolding scanBy
+    scan-numbers zero before bs why rest e = absurd (let z : _≡_ {A = ℕ} 0 1 = cc in omega arith)
+    scan-numbers (suc n) before bs why rest e = step-numbers n before bs why rest (λ a. scan-numbers n (before ++ (a ∷ [])) (drop (f before .size a) bs) why rest) (f before .look bs) e
+
+    pub every-numbers : (bs : List ℕ) (why : ℕ) (rest : List ℕ) → every f rule .read bs ≡ stopped why rest → Given why
+    every-numbers bs why rest e = scan-numbers (length bs) [] bs why rest e
+
   every-begun : (bs rest : List ℕ) (k : ℕ) → (r : Res (List A)) → r ≡ stopped k rest → Passed (length bs) [] bs r → Begun (every f rule) bs rest
   every-begun bs rest k r e p =
       record {

@@ -10,7 +10,7 @@ use lib.ListN.{length, take, drop, getD, length-append, length-drop, take-append
 use lib.Seq.{append-snoc, take-suc, take-take}
 use Rattle.lists.proofs.Tests.{and-left, and-right}
 use Rattle.codec.specs.Format.{Value, Item, fieldOf, unless, texts, allFine}
-use Rattle.codec.specs.Shapes.{sizes}
+use Rattle.codec.specs.Theorems.{sizes}
 use Rattle.codec.proofs.Values.{ValueLaws}
 use Rattle.codec.proofs.Items.{ItemLaws, length-head}
 

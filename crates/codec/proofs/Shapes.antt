@@ -1,23 +1,23 @@
 -- Small formats of the shapes that the parts allow, with their laws: a value with a last byte that is left out where it is 1;
--- pieces under two tags, each kept or refused by a rule; a field that is required by what was read before it. Assumes nothing.
+-- values under two tags, each kept or refused by a rule; a field that is required by what was read before it. Assumes nothing.
 use mathlib.Core.Path.{_≡_, refl}
 use mathlib.Core.Bool.{Bool, true, false, not, _&&_}
 use mathlib.Core.List.{List}
-use mathlib.Core.Option.{some}
 use Prim.Native.Nat.{ℕ, suc, _<_}
 use native.Mathlib.Nat.{le-refl}
 use native.Mathlib.Omega.{arith}
 use lib.Dec.{eqb}
-use borrow.Author.Tests.{eqb-true, ne-eqb}
+use borrow.Author.Tests.{eq-eqb, eqb-true, ne-eqb}
 use Rattle.lists.proofs.Tests.{and-left, not-yes}
-use Rattle.codec.specs.Format.{Value, num, pair, restricted, Item, field, tagged, Codec, malformed, one, many, both}
-use Rattle.codec.specs.Shapes.{beside, either, every, requiredIf}
+use Rattle.codec.specs.Format.{Value, num, pair, restricted, Item, tagged, Codec, malformed, one, many, both}
+use Rattle.codec.specs.Shapes.{beside, either, twoTags, every}
+use Rattle.codec.specs.Theorems.{requiredIf}
 use Rattle.codec.proofs.Values.{ValueLaws, num-laws, pair-laws, restricted-laws}
 use Rattle.codec.proofs.Items.{ItemLaws, tagged-laws}
 use Rattle.codec.proofs.Found.{restricted-passes}
 use Rattle.codec.proofs.Formats.{Lawful, one-lawful, opt-lawful, both-lawful}
 use Rattle.codec.proofs.Places.{Placed, Numbered, one-placed, opt-placed, both-placed, one-numbered, opt-numbered, both-numbered}
-use Rattle.codec.proofs.Either.{beside-laws, lengths-apart, tags-apart, either-laws, required-if-lawful, required-if-placed, required-if-numbered}
+use Rattle.codec.proofs.Either.{beside-is, beside-laws, lengths-apart, tags-apart, either-laws, required-if-lawful, required-if-placed, required-if-numbered}
 use Rattle.codec.proofs.Every.{every-lawful, every-placed, many-lawful, many-placed}
 
 -- ---- a last byte that is left out where it is 1; what may stand can depend on those before it
@@ -50,32 +50,23 @@ module _ {A : Type 0} (tag : ℕ) (v : Value A) (l : ValueLaws v) (short : v .le
   pub two-lengths-placed : (n : ℕ) → Placed (many oneByte n)
   two-lengths-placed n = many-placed oneByte one-byte-laws n
 
--- ---- pieces under a tag and the next, 0 and 1 beside them, as many as there are
-module _ {A : Type 0} (tag : ℕ) (v : Value A) (l : ValueLaws v) (short : v .len < 65536) (rule : List (A × ℕ) → A × ℕ → ℕ) where
-  abbrev marked : ℕ → Value (A × ℕ)
-  marked k = restricted (λ p. eqb (p .1) k) (beside k v)
-
-  abbrev piece : List (A × ℕ) → Item (A × ℕ)
-  piece before = either (λ p. eqb (p .1) 0) (tagged tag (marked 0)) (tagged (suc tag) (marked 1))
-
-  marked-is : (t k : ℕ) (bs : List ℕ) (p : A × ℕ) → field t (marked k) bs ≡ some p → eqb (p .1) k ≡ true
-  marked-is t k bs p e = restricted-passes t (beside k v) bs (λ p. eqb (p .1) k) p e
-
-  piece-laws : (before : List (A × ℕ)) → ItemLaws (piece before)
-  piece-laws before =
-      either-laws (λ p. eqb (p .1) 0) (tagged tag (marked 0)) (tagged (suc tag) (marked 1))
-      (tagged-laws tag (marked 0) short (restricted-laws (λ p. eqb (p .1) 0) (beside 0 v) (beside-laws 0 v l)))
-      (tagged-laws (suc tag) (marked 1) short (restricted-laws (λ p. eqb (p .1) 1) (beside 1 v) (beside-laws 1 v l)))
+-- ---- values under a tag and the next, 0 and 1 beside them, as many as there are
+module _ {A : Type 0} (tag : ℕ) (v : Value A) (l : ValueLaws v) (short : v .len < 65536) where
+  pub two-tags-laws : ItemLaws (twoTags tag v)
+  two-tags-laws =
+      either-laws (λ p. eqb (p .1) 0) (tagged tag (beside 0 v)) (tagged (suc tag) (beside 1 v))
+      (tagged-laws tag (beside 0 v) short (beside-laws 0 v l))
+      (tagged-laws (suc tag) (beside 1 v) short (beside-laws 1 v l))
       (omega arith) (omega arith)
-      (marked-is tag 0)
-      (λ bs p e. ne-eqb (p .1) 0 (λ z. omega (arith, z, eqb-true (p .1) 1 (marked-is (suc tag) 1 bs p e))))
-      (λ p rest h. tags-apart tag (suc tag) (marked 0) (marked 1) (λ e. omega arith) p rest)
+      (λ bs p e. eq-eqb (p .1) 0 (beside-is 0 v l tag bs p e))
+      (λ bs p e. ne-eqb (p .1) 0 (λ z. omega (arith, z, beside-is 1 v l (suc tag) bs p e)))
+      (λ p rest h. tags-apart tag (suc tag) (beside 0 v) (beside 1 v) (λ e. omega arith) p rest)
 
-  pub two-tags-lawful : Lawful (every piece rule) tag (suc (suc tag))
-  two-tags-lawful = every-lawful piece rule piece-laws tag (suc tag) (λ before. refl) (λ before. refl)
+  pub two-tags-lawful : (rule : List (A × ℕ) → A × ℕ → ℕ) → Lawful (every (λ before. twoTags tag v) rule) tag (suc (suc tag))
+  two-tags-lawful rule = every-lawful (λ before. twoTags tag v) rule (λ before. two-tags-laws) tag (suc tag) (λ before. refl) (λ before. refl)
 
-  pub two-tags-placed : Placed (every piece rule)
-  two-tags-placed = every-placed piece rule piece-laws
+  pub two-tags-placed : (rule : List (A × ℕ) → A × ℕ → ℕ) → Placed (every (λ before. twoTags tag v) rule)
+  two-tags-placed rule = every-placed (λ before. twoTags tag v) rule (λ before. two-tags-laws)
 
 -- ---- a number first, by which the field after it is required or may be absent for 0
 abbrev number : ℕ → ℕ → Item ℕ

@@ -23,9 +23,18 @@ finish fromParts n (stopped why rest) = refused why (n - length rest)
 unfoldable pub reading : {A M : Type 0} → Codec A → (A → M) → ℕ → List ℕ → Reading M
 reading c fromParts most bs = cond (leb (length bs) most) (finish fromParts (length bs) (c .read bs)) (refused malformed most)
 
+-- bytes of any number
+abbrev pub readingAll : {A M : Type 0} → Codec A → (A → M) → List ℕ → Reading M
+readingAll c fromParts bs = reading c fromParts (length bs) bs
+
 abbrev pub isRefused : {M : Type 0} → Reading M → Bool
 isRefused (whole v) = false
 isRefused (refused why place) = true
+
+-- the number of a refusal, 0 where there is none
+abbrev pub whyIn : {M : Type 0} → Reading M → ℕ
+whyIn (whole v) = 0
+whyIn (refused why place) = why
 
 abbrev pub placeIn : {M : Type 0} → Reading M → ℕ
 placeIn (whole v) = 0

@@ -1,11 +1,12 @@
--- More ways to put fields together, and how many bytes fields that repeat have. No contract is stated by these definitions; theorems speak by them.
+-- More ways to put fields together: a field that is one of two, and fields that repeat as often as they are there, each of which
+-- a rule can refuse by a number of its own.
 use mathlib.Core.Bool.{Bool, true, cond, _&&_}
 use mathlib.Core.List.{List, [], _∷_, _++_}
 use mathlib.Core.Option.{Option, some, none}
-use Prim.Native.Nat.{ℕ, zero, suc, _+_}
+use Prim.Native.Nat.{ℕ, zero, suc}
 use lib.Dec.{eqb}
 use lib.ListN.{length, drop}
-use Rattle.codec.specs.Format.{Value, mapO, Item, Res, got, stopped, Codec, more, texts, allFine, one, opt}
+use Rattle.codec.specs.Format.{Value, mapO, Item, tagged, Res, got, stopped, Codec, more, texts, allFine}
 
 -- a value with a number beside it that is always k and is not written
 abbrev pub beside : {A : Type 0} → ℕ → Value A → Value (A × ℕ)
@@ -32,10 +33,9 @@ either is f g = record {
   fine = λ a. cond (is a) (f .fine a) (g .fine a);
 }
 
--- how many bytes they have together
-unfoldable pub sizes : {A : Type 0} → (List A → Item A) → List A → List A → ℕ
-sizes f before [] = 0
-sizes f before (a ∷ l) = f before .size a + sizes f (before ++ (a ∷ [])) l
+-- a value under a tag, with 0 beside it, or under the next tag, with 1
+abbrev pub twoTags : {A : Type 0} → ℕ → Value A → Item (A × ℕ)
+twoTags tag v = either (λ p. eqb (p .1) 0) (tagged tag (beside 0 v)) (tagged (suc tag) (beside 1 v))
 
 -- as many as there are: each that is found keeps the rule after those before it, which gives 0, or it is refused where it stands by
 -- the number that the rule gives
@@ -54,7 +54,3 @@ allKeep rule before (a ∷ l) = eqb (rule before a) 0 && allKeep rule (before ++
 
 abbrev pub every : {A : Type 0} → (List A → Item A) → (List A → A → ℕ) → Codec (List A)
 every f rule = record { read = λ bs. scanBy f rule (length bs) [] bs; write = texts f []; ok = λ l. allFine f [] l && allKeep rule [] l }
-
--- a field that has to be there, or is left out for d, as the test says
-abbrev pub requiredIf : {A : Type 0} → Bool → Item A → Item A → A → (A → Bool) → Codec A
-requiredIf must f g d is = cond must (one f) (opt g d is)

@@ -1,21 +1,23 @@
 -- Demand 1 holds. Assumes nothing.
-use mathlib.Core.Path.{_≡_, refl, _∙_}
-use mathlib.Core.Bool.{false, cond}
-use mathlib.Core.List.{[], _++_}
+use mathlib.Core.Path.{_≡_, refl, sym, _∙_}
+use mathlib.Core.Bool.{Bool, true, false, cond}
+use mathlib.Core.List.{List, [], _++_}
 use Prim.Native.Nat.{ℕ, _≤_}
 use native.Mathlib.Nat.{not-suc-le-zero}
 use native.Mathlib.Omega.{arith}
 use lib.IntN.{pos, natAbs, _-ℤ_}
 use lib.ListN.{length, drop}
+use Rattle.lists.proofs.Tests.{not-no}
 use Rattle.refusals.specs.declared.Refusal.{Refusal}
-use Rattle.refusals.specs.declared.Refusal.the-variants.{BrokenLog, BadSpan, BadPower, SharedMinute, FullLog, NoSuchStart, BadStretch, BadBook, BadYear, FloorAboveCap, TooLarge, BadPeriod, Malformed, NoRoom}
-use Rattle.refusals.specs.Refusals.{refusalNumber, answerNumber}
-use Rattle.refusals.proofs.Laws.{same-refusal, beside-refused}
+use Rattle.refusals.specs.declared.Refusal.the-variants.{BrokenLog, BadSpan, BadPower, SharedMinute, FullLog, NoSuchStart, BadStretch, BadBook, BadYear, FloorAboveCap, TooLarge, BadPeriod, Malformed, NoRoom, BadPiece}
+use Rattle.refusals.specs.Refusals.{firstApplicable, refusalNumber, answerNumber, writtenNumber, lengthFigure}
+use Rattle.refusals.proofs.Laws.{same-refusal, all-clear, beside-refused}
 use Rattle.calendar.specs.Years.{yearStart, yearEnd, minutesRows, minutesNumber, firstFigure, endFigure}
 use Rattle.calendar.proofs.Only.{one-minutes}
 use Rattle.entries.specs.Row.{putInOrder, without}
-use Rattle.outage.specs.Log.{lastRegimeEnd, logEntries, logWith, logHolding, lostEnergy}
-use Rattle.outage.specs.Calls.{emptyRows, enterRows, cancelRows, lostRows, lostNumber, lostFigure}
+use Rattle.outage.specs.declared.Log.{Log}
+use Rattle.outage.specs.Log.{goodRegimeEnd, lastRegimeEnd, logEntries, logWith, logHolding, lostEnergy}
+use Rattle.outage.specs.Calls.{emptyLog, emptyRows, enterRows, cancelRows, lostRows, lostNumber, lostFigure}
 use Rattle.outage.proofs.Only.{one-empty, one-enter, one-cancel, one-lost}
 use Rattle.outage.proofs.Only as logs
 use Rattle.year.specs.Year.{freshYear}
@@ -34,16 +36,24 @@ use Rattle.settlement.specs.Gap.{daySum, hundredths}
 use Rattle.settlement.specs.Growth.{growthOf, paidOf}
 use Rattle.settlement.specs.Calls.{gapRows, gapNumber, gapFigure, growthRows, growthNumber, growthFigure, payRows, payNumber, payFigure, settleRows}
 use Rattle.settlement.proofs.Only.{one-gap, one-growth, one-pay, one-settle, one-reconcile}
+use Rattle.text.specs.Text.{textOf}
+use Rattle.codec.specs.Message as Sheet
+use Rattle.sheet_printout.specs.Dates.{momentOf, outageLine}
+use Rattle.sheet_printout.specs.Printout.{printMinuteRows, printOutageRows}
+use Rattle.sheet_printout.proofs.Only.{one-print-minute, one-print-outage}
+use Rattle.sheet_format.specs.Sheet.{sheetReading, readSheetRows, sheetPlace, sheetLog, sheetOf, writeSheetRows}
+use Rattle.sheet_reading.proofs.Only.{one-read-sheet}
+use Rattle.sheet_writing.proofs.Only.{one-write-sheet}
 use Rattle.return_format.specs.Return.{Reading, whole, refused, readingOf, isRefused, placeIn, yearIn, returnOf, writeRows}
 use Rattle.return_reading.proofs.Only.{one-read}
-use Rattle.return_writing.specs.Written.{writtenNumber, lengthFigure}
 use Rattle.return_writing.proofs.Only.{one-write}
 use Rattle.return_refiling.specs.Refiled.{refileRows}
 use Rattle.return_refiling.proofs.Only.{one-refile}
 use Rattle.return_printout.proofs.Only.{one-print}
 use Rattle.demands.specs.Demand1.{Demand1}
+use Rattle.demands.proofs.Sheets.{clear-whole}
 
-numbers : (why : Refusal) → (1 ≤ refusalNumber why) × (refusalNumber why ≤ 14)
+numbers : (why : Refusal) → (1 ≤ refusalNumber why) × (refusalNumber why ≤ 15)
 numbers BrokenLog = omega arith
 numbers BadSpan = omega arith
 numbers BadPower = omega arith
@@ -58,6 +68,7 @@ numbers TooLarge = omega arith
 numbers BadPeriod = omega arith
 numbers Malformed = omega arith
 numbers NoRoom = omega arith
+numbers BadPiece = omega arith
 
 -- ---- a reading, by what it found
 refused-year : (x : Reading) (n : ℕ) → n ≡ cond (isRefused x) 13 0 → (n ≡ 0 → ⊥) → yearIn x ≡ freshYear
@@ -67,6 +78,20 @@ refused-year (refused why place) n e z = refl
 accepted-place : (x : Reading) (n : ℕ) → n ≡ cond (isRefused x) 13 0 → n ≡ 0 → placeIn x ≡ 0
 accepted-place (whole y) n e z = refl
 accepted-place (refused why place) n e z = absurd (not-suc-le-zero {n = 0} (omega arith))
+
+-- ---- a sheet, by what was found
+refused-log : (re : ℕ) (bs : List ℕ) (n : ℕ) → n ≡ firstApplicable (readSheetRows re bs) → (n ≡ 0 → ⊥) → sheetLog re bs ≡ emptyLog re
+refused-log re bs n e z = by (goodRegimeEnd re) refl (sheetReading re bs) refl
+  where
+    by : (b : Bool) → goodRegimeEnd re ≡ b → (r : Sheet.Reading Log) → sheetReading re bs ≡ r → sheetLog re bs ≡ emptyLog re
+    by false g r h = rw g refl
+    by true g (Sheet.whole log) h = absurd (z (e ∙ rw (g, h) refl))
+    by true g (Sheet.refused why place) h = rw (g, h) refl
+
+whole-place : (re : ℕ) (bs : List ℕ) → firstApplicable (readSheetRows re bs) ≡ 0 → sheetPlace re bs ≡ 0
+whole-place re bs e =
+    let g = not-no (goodRegimeEnd re) (all-clear (readSheetRows re bs) e .0) in
+    rw (g, clear-whole re bs e) refl
 
 pub demand-1 : Demand1
 demand-1 = record {
@@ -93,6 +118,10 @@ demand-1 = record {
   write = one-write;
   refile = one-refile;
   print = one-print;
+  read-sheet = one-read-sheet;
+  write-sheet = one-write-sheet;
+  print-minute = one-print-minute;
+  print-outage = one-print-outage;
   enter-checks = λ l e r g v. g .0 ∙ rw v refl;
   cancel-checks = λ l key r g v. g .0 ∙ rw v refl;
   lost-checks = λ l a b r g v. g .0 ∙ rw v refl;
@@ -104,6 +133,8 @@ demand-1 = record {
   assess-years-checks = λ y n r g v. g .0 ∙ rw v refl;
   assess-checks = λ y r g v. g .0 ∙ rw v refl;
   write-checks = λ y out r o g v. g .0 ∙ rw v refl;
+  read-sheet-checks = λ re bs r g b. (g .0 ∙ rw b refl, g .1 ∙ rw b refl);
+  write-sheet-checks = λ l out r o g v. g .0 ∙ rw v refl;
   numbered = numbers;
   fixed = same-refusal;
   enter-refused = λ l e r g n. beside-refused (enterRows l e) (answerNumber (r .answer)) (r .log) (logWith l (putInOrder e (logEntries l))) l (g .0) (g .1) n;
@@ -116,6 +147,11 @@ demand-1 = record {
   refile-refused = λ bs out r o g n. (
     beside-refused (refileRows bs (length out)) (writtenNumber r) o (bs ++ drop (length bs) out) out (g .0) (g .2) n,
     beside-refused (refileRows bs (length out)) (writtenNumber r) (lengthFigure r) (length bs) 0 (g .0) (g .1) n,
+  );
+  read-sheet-refused = λ re bs r g n. g .2 ∙ refused-log re bs (answerNumber (r .answer)) (g .0) n;
+  write-sheet-refused = λ l out r o g n. (
+    beside-refused (writeSheetRows l (length out)) (writtenNumber r) o (sheetOf l ++ drop (length (sheetOf l)) out) out (g .0) (g .2) n,
+    beside-refused (writeSheetRows l (length out)) (writtenNumber r) (lengthFigure r) (length (sheetOf l)) 0 (g .0) (g .1) n,
   );
   lost-refused = λ l a b r g n. beside-refused (lostRows l a b) (lostNumber r) (lostFigure r) (lostEnergy a b (logEntries l)) 0 (g .0) (g .1) n;
   minutes-refused = λ number regimeEnd r g n. (
@@ -139,4 +175,7 @@ demand-1 = record {
   reconcile-refused = λ final provisional a b r g n. beside-refused (settleRows (final -ℤ provisional) a b) (payNumber r) (payFigure r) (paidOf (final -ℤ provisional) (natAbs (hundredths (daySum a) (daySum b)))) (pos 0) (g .0) (g .1) n;
   read-refused = λ bs r g n. g .2 ∙ refused-year (readingOf bs) (answerNumber (r .answer)) (g .0) n;
   read-accepted = λ bs r g n. g .1 ∙ accepted-place (readingOf bs) (answerNumber (r .answer)) (g .0) n;
+  read-sheet-accepted = λ re bs r g n. g .1 ∙ whole-place re bs (sym (g .0) ∙ n);
+  print-minute-refused = λ minute r g n. beside-refused (printMinuteRows minute) (answerNumber (r .answer)) (r .text) (textOf (momentOf minute)) (textOf []) (g .0) (g .1) n;
+  print-outage-refused = λ e r g n. beside-refused (printOutageRows e) (answerNumber (r .answer)) (r .text) (textOf (outageLine e)) (textOf []) (g .0) (g .1) n;
 }

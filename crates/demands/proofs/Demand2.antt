@@ -1,16 +1,16 @@
 -- Demand 2 holds. Assumes nothing.
 use mathlib.Core.Path.{_≡_, refl, sym, ap, _∙_, subst}
 use mathlib.Core.Bool.{Bool, true, false, cond, _&&_}
-use mathlib.Core.List.{List, _++_}
+use mathlib.Core.List.{List, [], _++_}
 use Prim.Native.Nat.{ℕ, _+_, _-_, _*_, _/_, _^_, _≤_, _<_}
 use native.Mathlib.Omega.{arith}
-use borrow.Author.Tests.{leb-true, ltb-true, lt-ltb}
+use borrow.Author.Tests.{leb-true, ltb-true, ltb-false, lt-ltb}
 use lib.Dec.{leb, ltb}
 use lib.ListN.{length, drop}
 use lib.IntN.{ℤ, pos, negsuc, natAbs, _+ℤ_}
 use lib.Signed.{leZ}
 use Rattle.lists.proofs.Tests.{and-right, not-no}
-use Rattle.refusals.specs.Refusals.{firstApplicable, answerNumber}
+use Rattle.refusals.specs.Refusals.{firstApplicable, answerNumber, writtenNumber, lengthFigure}
 use Rattle.refusals.proofs.Laws.{all-clear, beside-accepted}
 use Rattle.refusals.proofs.Cases.{same-case}
 use Rattle.money.specs.Rounding.{onMagnitude}
@@ -18,7 +18,7 @@ use Rattle.calendar.specs.declared.YearMinutes.{YearMinutes}
 use Rattle.calendar.specs.Years.{goodYearNumber, firstFigure, endFigure, MinutesGives}
 use Rattle.outage.specs.declared.Log.{Log}
 use Rattle.outage.specs.declared.losing.LostEnergy.{LostEnergy}
-use Rattle.outage.specs.Log.{mostMw, validLog, logEntries, lostEnergy}
+use Rattle.outage.specs.Log.{mostMw, goodRegimeEnd, lastRegimeEnd, validLog, logEntries, lostEnergy}
 use Rattle.outage.specs.Calls.{lostFigure, LostGives}
 use Rattle.year.specs.declared.Year.{Year}
 use Rattle.year.specs.Year.{goodYear}
@@ -51,6 +51,15 @@ use Rattle.settlement.specs.Calls.{gapHolds, gapRows, gapNumber, gapFigure, Gap
 use Rattle.settlement.proofs.Payments.{no-half, nearest, only-nearest, passing, passes, entry-rule, entry-greatest, near-paid}
 use Rattle.codec.specs.Theorems.{Bytes}
 use Rattle.codec.specs.Theorems.{joined}
+use Rattle.outage.proofs.LogHolding.{valid-end}
+use Rattle.text.specs.Text.{textOf}
+use Rattle.sheet_printout.specs.Dates.{momentOf}
+use Rattle.sheet_printout.specs.Printout.{printMinuteRows}
+use Rattle.sheet_printout.proofs.Dates.{right-date, one-minute}
+use Rattle.sheet_format.specs.Sheet.{readSheetRows}
+use Rattle.sheet_round_trip.specs.Sheets.{IsSheetOf}
+use Rattle.sheet_round_trip.proofs.Places.{sheet-read}
+use Rattle.sheet_round_trip.proofs.Places as sheets
 use Rattle.return_format.specs.declared.Return.{Return}
 use Rattle.return_format.specs.Return.{mostBytes, Reading, whole, refused, readingOf, isRefused, placeIn, returnOf, writeRows}
 use Rattle.return_round_trip.specs.Flat.{fieldsOf}
@@ -58,14 +67,15 @@ use Rattle.return_round_trip.specs.Places.{RefusalPlace}
 use Rattle.return_round_trip.proofs.Places.{return-accepted, accepted-return, same-bytes, refusal-place, place-alone, longer-refused, one-place}
 use Rattle.return_round_trip.proofs.Flat.{flat, flat-whole, tags-ascend}
 use Rattle.return_reading.specs.Reading.{ReturnGives}
-use Rattle.return_writing.specs.declared.Written.{Written}
-use Rattle.return_writing.specs.declared.Written.the-variants.{Length}
-use Rattle.return_writing.specs.Written.{writtenNumber, lengthFigure, WriteGives}
-use Rattle.return_writing.proofs.Only.{written-answers}
+use Rattle.refusals.specs.declared.Written.{Written}
+use Rattle.refusals.specs.declared.Written.the-variants.{Length}
+use Rattle.return_writing.specs.Written.{WriteGives}
+use Rattle.refusals.proofs.Writing.{written-answers}
 use Rattle.return_refiling.specs.Refiled.{refileRows, RefileGives}
 use Rattle.demands.specs.Demand2.{Carried, NearSums, Demand2}
 use Rattle.demands.proofs.Lost.{first-is, end-is, year-lost, year-most}
 use Rattle.demands.proofs.Returns.{written-reads-back, read-writes-back}
+use Rattle.demands.proofs.Sheets.{sheet-is, sheet-reads-back, sheet-writes-back, sheet-refused-at, sheet-not-longer, sheet-cut-same}
 
 -- ---- levels
 availability-is : (book : Book) (log : Log) (number : ℕ) (r : Availability) → AvailabilityGives book log number r → availabilityNumber r ≡ 0
@@ -214,6 +224,15 @@ module _ (bs : List ℕ) (t : Return) (g : ReturnGives bs t) where
       let e = longer-refused bs h in
       (g .0 ∙ ap (λ (x : Reading). cond (isRefused x) 13 0) e, g .1 ∙ ap placeIn e)
 
+-- ---- day sheets
+sheet-end-good : (re : ℕ) (log : Log) (bs : List ℕ) → IsSheetOf re log bs → goodRegimeEnd re ≡ true
+sheet-end-good re log bs s = rw (s .end) at (valid-end log (s .valid))
+
+sheet-accepted : (re : ℕ) (bs : List ℕ) (log : Log) → IsSheetOf re log bs → firstApplicable (readSheetRows re bs) ≡ 0
+sheet-accepted re bs log s =
+    let good = sheet-end-good re log bs s in
+    rw (good, sheet-read re good log bs s) refl
+
 pub demand-2 : Demand2
 demand-2 = record {
   availability = availability-is;
@@ -253,4 +272,19 @@ demand-2 = record {
   place = λ bs b t g n h. place-there bs t g (readingOf bs) refl b n h;
   one-place = one-place;
   longer = longer-is;
+  sheet-written-read = sheet-reads-back;
+  sheet-read-written = sheet-writes-back;
+  is-sheet = λ re bs b t g. (
+    λ n. record { log = t .log; sheet-of = sheet-is re bs b t g n },
+    λ s. g .0 ∙ sheet-accepted re bs (s .log) (s .sheet-of),
+  );
+  sheet-same-bytes = λ re x y bs s t. sheets.same-bytes re (sheet-end-good re x bs s) x y bs s t;
+  sheet-place = sheet-refused-at;
+  sheet-longest = sheet-not-longer;
+  sheet-cut = sheet-cut-same;
+  date = λ minute r g n. (
+    beside-accepted (printMinuteRows minute) (answerNumber (r .answer)) (r .text) (textOf (momentOf minute)) (textOf []) (g .0) (g .1) n,
+    right-date minute (ltb-false lastRegimeEnd minute (all-clear (printMinuteRows minute) (sym (g .0) ∙ n) .0)),
+  );
+  one-minute = one-minute;
 }

@@ -19,10 +19,10 @@ use Rattle.return_format.specs.declared.Return.{Return}
 use Rattle.return_format.specs.Return.{Reading, whole, readingOf, isRefused, placeIn, yearIn, readRows, readYear, writable, validYear, returnOf, writeRows}
 use Rattle.return_reading.specs.Reading.{ReturnGives}
 use Rattle.return_reading.proofs.Only.{only-read}
-use Rattle.return_writing.specs.declared.Written.{Written}
-use Rattle.return_writing.specs.declared.Written.the-variants.{Length}
+use Rattle.refusals.specs.declared.Written.{Written}
+use Rattle.refusals.specs.declared.Written.the-variants.{Length}
 use Rattle.refusals.proofs.Cases.{same-case}
-use Rattle.return_writing.proofs.Only.{written-answers}
+use Rattle.refusals.proofs.Writing.{written-answers}
 use Rattle.return_writing.specs.Written.{WriteGives}
 use Rattle.return_round_trip.proofs.RoundTrip.{written-read, accepted-whole, read-written}
 

@@ -7,7 +7,7 @@ use mathlib.Core.List.{List, []}
 use Prim.Native.Nat.{ℕ, _≤_}
 use lib.IntN.{ℤ, pos}
 use Rattle.refusals.specs.declared.Refusal.{Refusal}
-use Rattle.refusals.specs.Refusals.{refusalNumber, answerNumber}
+use Rattle.refusals.specs.Refusals.{refusalNumber, answerNumber, writtenNumber, lengthFigure}
 use Rattle.refusals.specs.Answers.{One}
 use Rattle.calendar.specs.declared.YearMinutes.{YearMinutes}
 use Rattle.calendar.specs.Years.{minutesNumber, firstFigure, endFigure, MinutesGives}
@@ -16,8 +16,8 @@ use Rattle.entries.specs.declared.Key.{Key}
 use Rattle.outage.specs.declared.Log.{Log}
 use Rattle.outage.specs.declared.Logged.{Logged}
 use Rattle.outage.specs.declared.losing.LostEnergy.{LostEnergy}
-use Rattle.outage.specs.Log.{lastRegimeEnd, validLog, logHolding}
-use Rattle.outage.specs.Calls.{EmptyGives, EnterGives, CancelGives, lostNumber, lostFigure, LostGives}
+use Rattle.outage.specs.Log.{lastRegimeEnd, goodRegimeEnd, validLog, logHolding}
+use Rattle.outage.specs.Calls.{emptyLog, EmptyGives, EnterGives, CancelGives, lostNumber, lostFigure, LostGives}
 use Rattle.outage.specs.Calls as logs
 use Rattle.year.specs.declared.Year.{Year}
 use Rattle.year.specs.Year.{freshYear, goodYear}
@@ -41,10 +41,16 @@ use Rattle.settlement.specs.declared.table.Growth.{Growth}
 use Rattle.settlement.specs.declared.paying.Payment.{Payment}
 use Rattle.settlement.specs.Calls.{gapNumber, gapFigure, GapGives, growthNumber, growthFigure, GrowthGives, payNumber, payFigure, PayGives, SettleGives, ReconcileGives}
 use Rattle.codec.specs.Theorems.{Bytes}
+use Rattle.text.specs.Text.{textOf}
+use Rattle.sheet_printout.specs.declared.Printed.{Printed}
+use Rattle.sheet_printout.specs.Printout.{PrintMinuteGives, PrintOutageGives}
+use Rattle.sheet_format.specs.declared.Sheet.{Sheet}
+use Rattle.sheet_reading.specs.Reading.{SheetGives}
+use Rattle.sheet_writing.specs.Written.{WriteSheetGives}
 use Rattle.return_format.specs.declared.Return.{Return}
 use Rattle.return_reading.specs.Reading.{ReturnGives}
-use Rattle.return_writing.specs.declared.Written.{Written}
-use Rattle.return_writing.specs.Written.{writtenNumber, lengthFigure, WriteGives}
+use Rattle.refusals.specs.declared.Written.{Written}
+use Rattle.return_writing.specs.Written.{WriteGives}
 use Rattle.return_refiling.specs.Refiled.{RefileGives}
 use Rattle.return_printout.specs.Printout.{PrintGives}
 
@@ -78,6 +84,10 @@ pub record Demand1 : Type 0 where
   pub write : (y : Year) (out : List ℕ) → One (λ (p : Written × List ℕ). WriteGives y out (p .0) (p .1))
   pub refile : (bs out : List ℕ) → One (λ (p : Written × List ℕ). RefileGives bs out (p .0) (p .1))
   pub print : (bs : List ℕ) → Bytes bs → One (PrintGives bs)
+  pub read-sheet : (regimeEnd : ℕ) (bs : List ℕ) → One (SheetGives regimeEnd bs)
+  pub write-sheet : (log : Log) (out : List ℕ) → One (λ (p : Written × List ℕ). WriteSheetGives log out (p .0) (p .1))
+  pub print-minute : (minute : ℕ) → One (PrintMinuteGives minute)
+  pub print-outage : (e : Entry) → One (PrintOutageGives e)
   -- ---- "It checks what it is handed": a broken log is 1, a bad book 8 before it, a year or amounts out of range 9
   pub enter-checks : (log : Log) (e : Entry) (r : Logged) → EnterGives log e r → validLog log ≡ false → answerNumber (r .answer) ≡ 1
   pub cancel-checks : (log : Log) (key : Key) (r : Logged) → CancelGives log key r → validLog log ≡ false → answerNumber (r .answer) ≡ 1
@@ -90,15 +100,20 @@ pub record Demand1 : Type 0 where
   pub assess-years-checks : (y : Yearly) (n : ℕ) (r : Assessment) → YearsGives y n r → assessable y n ≡ false → assessNumber r ≡ 9
   pub assess-checks : (y : Yearly) (r : Assessment) → AssessGives y r → assessable y 5 ≡ false → assessNumber r ≡ 9
   pub write-checks : (y : Year) (out : List ℕ) (r : Written) (o : List ℕ) → WriteGives y out r o → validLog (y .log) ≡ false → writtenNumber r ≡ 1
-  -- ---- "A refused call has a fixed number": 1 to 14, each for one refusal
-  pub numbered : (why : Refusal) → (1 ≤ refusalNumber why) × (refusalNumber why ≤ 14)
+  pub read-sheet-checks : (regimeEnd : ℕ) (bs : List ℕ) (r : Sheet) → SheetGives regimeEnd bs r → goodRegimeEnd regimeEnd ≡ false → (answerNumber (r .answer) ≡ 8) × (r .place ≡ 0)
+  pub write-sheet-checks : (log : Log) (out : List ℕ) (r : Written) (o : List ℕ) → WriteSheetGives log out r o → validLog log ≡ false → writtenNumber r ≡ 1
+  -- ---- "A refused call has a fixed number": 1 to 15, each for one refusal
+  pub numbered : (why : Refusal) → (1 ≤ refusalNumber why) × (refusalNumber why ≤ 15)
   pub fixed : (why other : Refusal) → refusalNumber why ≡ refusalNumber other → why ≡ other
   -- ---- "gives back the log it got", to the last slot
   pub enter-refused : (log : Log) (e : Entry) (r : Logged) → EnterGives log e r → (answerNumber (r .answer) ≡ 0 → ⊥) → r .log ≡ log
   pub cancel-refused : (log : Log) (key : Key) (r : Logged) → CancelGives log key r → (answerNumber (r .answer) ≡ 0 → ⊥) → r .log ≡ log
   -- where it was handed none, the empty log to 13,632,480
   pub empty-refused : (regimeEnd : ℕ) (r : Logged) → EmptyGives regimeEnd r → (answerNumber (r .answer) ≡ 0 → ⊥) → r .log ≡ logHolding lastRegimeEnd []
+  -- a sheet that is refused gives the empty log for its regime end, or to 13,632,480 where that is refused
+  pub read-sheet-refused : (regimeEnd : ℕ) (bs : List ℕ) (r : Sheet) → SheetGives regimeEnd bs r → (answerNumber (r .answer) ≡ 0 → ⊥) → r .log ≡ emptyLog regimeEnd
   -- ---- "writes no byte to a lent buffer"; the length is 0
+  pub write-sheet-refused : (log : Log) (out : List ℕ) (r : Written) (o : List ℕ) → WriteSheetGives log out r o → (writtenNumber r ≡ 0 → ⊥) → (o ≡ out) × (lengthFigure r ≡ 0)
   pub write-refused : (y : Year) (out : List ℕ) (r : Written) (o : List ℕ) → WriteGives y out r o → (writtenNumber r ≡ 0 → ⊥) → (o ≡ out) × (lengthFigure r ≡ 0)
   pub refile-refused : (bs out : List ℕ) (r : Written) (o : List ℕ) → RefileGives bs out r o → (writtenNumber r ≡ 0 → ⊥) → (o ≡ out) × (lengthFigure r ≡ 0)
   -- ---- beside a refusal figures are 0
@@ -119,3 +134,7 @@ pub record Demand1 : Type 0 where
   -- beside a refused reading a fresh year, beside an accepted one the place 0
   pub read-refused : (bs : List ℕ) (r : Return) → ReturnGives bs r → (answerNumber (r .answer) ≡ 0 → ⊥) → r .year ≡ freshYear
   pub read-accepted : (bs : List ℕ) (r : Return) → ReturnGives bs r → answerNumber (r .answer) ≡ 0 → r .place ≡ 0
+  pub read-sheet-accepted : (regimeEnd : ℕ) (bs : List ℕ) (r : Sheet) → SheetGives regimeEnd bs r → answerNumber (r .answer) ≡ 0 → r .place ≡ 0
+  -- and of a minute or an outage that is not printed an empty text
+  pub print-minute-refused : (minute : ℕ) (r : Printed) → PrintMinuteGives minute r → (answerNumber (r .answer) ≡ 0 → ⊥) → r .text ≡ textOf []
+  pub print-outage-refused : (e : Entry) (r : Printed) → PrintOutageGives e r → (answerNumber (r .answer) ≡ 0 → ⊥) → r .text ≡ textOf []

@@ -10,14 +10,14 @@ use lib.Dec.{leb}
 use lib.ListN.{length, getD, take, drop}
 use lib.IntN.{ℤ, pos, natAbs, _+ℤ_, _-ℤ_, _*ℤ_}
 use Rattle.lists.specs.Lists.{all}
-use Rattle.refusals.specs.Refusals.{answerNumber}
+use Rattle.refusals.specs.Refusals.{answerNumber, writtenNumber}
 use Rattle.refusals.specs.declared.Answer.the-variants.{Done}
 use Rattle.money.specs.Rounding.{onMagnitude}
 use Rattle.calendar.specs.declared.YearMinutes.{YearMinutes}
 use Rattle.calendar.specs.Years.{firstFigure, endFigure, MinutesGives}
 use Rattle.outage.specs.declared.Log.{Log}
 use Rattle.outage.specs.declared.losing.LostEnergy.{LostEnergy}
-use Rattle.outage.specs.Log.{slots, mostMw}
+use Rattle.outage.specs.Log.{slots, mostMw, goodRegimeEnd, lastRegimeEnd}
 use Rattle.outage.specs.Calls.{lostFigure, LostGives}
 use Rattle.year.specs.declared.Year.{Year}
 use Rattle.year.specs.Year.{lineSlots}
@@ -47,14 +47,25 @@ use Rattle.settlement.specs.Exact.{NearExact}
 use Rattle.settlement.specs.Calls.{gapNumber, gapFigure, GapGives, growthNumber, growthFigure, GrowthGives, payNumber, payFigure, PayGives, SettleGives, ReconcileGives}
 use Rattle.codec.specs.Theorems.{Bytes}
 use Rattle.codec.specs.Theorems.{isWhole, joined}
+use Rattle.text.specs.Text.{textOf}
+use Rattle.sheet_printout.specs.declared.Printed.{Printed}
+use Rattle.sheet_printout.specs.Dates.{momentOf}
+use Rattle.sheet_printout.specs.Printout.{PrintMinuteGives}
+use Rattle.sheet_printout.specs.Theorems.{RightDate, SameFigures}
+use Rattle.outage_field.specs.Field.{entryBytes}
+use Rattle.sheet_format.specs.declared.Sheet.{Sheet}
+use Rattle.sheet_round_trip.specs.Sheets.{IsSheetOf, IsSheet, longestSheet}
+use Rattle.sheet_round_trip.specs.Sheets as sheets
+use Rattle.sheet_reading.specs.Reading.{SheetGives}
+use Rattle.sheet_writing.specs.Written.{WriteSheetGives}
 use Rattle.return_format.specs.declared.Return.{Return}
 use Rattle.return_format.specs.Return.{mostBytes}
 use Rattle.return_round_trip.specs.Flat.{fieldsOf, Ordered}
 use Rattle.return_round_trip.specs.Places.{IsReturnOf, IsReturn, RefusalPlace}
 use Rattle.return_reading.specs.Reading.{ReturnGives}
-use Rattle.return_writing.specs.declared.Written.{Written}
-use Rattle.return_writing.specs.declared.Written.the-variants.{Length}
-use Rattle.return_writing.specs.Written.{writtenNumber, WriteGives}
+use Rattle.refusals.specs.declared.Written.{Written}
+use Rattle.refusals.specs.declared.Written.the-variants.{Length}
+use Rattle.return_writing.specs.Written.{WriteGives}
 use Rattle.return_refiling.specs.Refiled.{RefileGives}
 
 -- ---- what the figures of an assessment are
@@ -164,3 +175,24 @@ pub record Demand2 : Type 0 where
       → RefusalPlace bs (t .place) × ((other : ℕ) → RefusalPlace bs other → other ≡ t .place)
   pub one-place : (bs : List ℕ) (place other : ℕ) → RefusalPlace bs place → RefusalPlace bs other → place ≡ other
   pub longer : (bs : List ℕ) (t : Return) → ReturnGives bs t → mostBytes < length bs → (answerNumber (t .answer) ≡ 13) × (t .place ≡ mostBytes)
+  -- ---- rule 15.6: day sheets. A log that is written reads back as itself, to its own regime end
+  pub sheet-written-read : (log : Log) → length (log .entries) ≡ slots → (out o : List ℕ) (n : ℕ) → WriteSheetGives log out (Length n) o
+      → (t : Sheet) → SheetGives (log .«regime_end») (take n o) t → t ≡ record { log = log; answer = Done; place = 0 }
+  -- a sheet that is read and written again gives its own bytes, where there is room, and nothing else changes
+  pub sheet-read-written : (regimeEnd : ℕ) (bs : List ℕ) → Bytes bs → (t : Sheet) → SheetGives regimeEnd bs t → answerNumber (t .answer) ≡ 0
+      → (out o : List ℕ) (r : Written) → WriteSheetGives (t .log) out r o → length bs ≤ length out → (r ≡ Length (length bs)) × (o ≡ bs ++ drop (length bs) out)
+  -- a sheet is accepted exactly where some valid log to the regime end has these bytes, and one log alone has them
+  pub is-sheet : (regimeEnd : ℕ) (bs : List ℕ) → Bytes bs → (t : Sheet) → SheetGives regimeEnd bs t
+      → (answerNumber (t .answer) ≡ 0 → IsSheet regimeEnd bs) × (IsSheet regimeEnd bs → answerNumber (t .answer) ≡ 0)
+  pub sheet-same-bytes : (regimeEnd : ℕ) (x y : Log) (bs : List ℕ) → IsSheetOf regimeEnd x bs → IsSheetOf regimeEnd y bs → x ≡ y
+  -- rule 15.4: the one place of a refused sheet
+  pub sheet-place : (regimeEnd : ℕ) (bs : List ℕ) → Bytes bs → goodRegimeEnd regimeEnd ≡ true → (t : Sheet) → SheetGives regimeEnd bs t → (answerNumber (t .answer) ≡ 0 → ⊥)
+      → sheets.RefusalPlace regimeEnd bs (t .place) × ((other : ℕ) → sheets.RefusalPlace regimeEnd bs other → other ≡ t .place)
+  -- no sheet that is written is longer
+  pub sheet-longest : (log : Log) → length (log .entries) ≡ slots → (out o : List ℕ) (n : ℕ) → WriteSheetGives log out (Length n) o → n ≤ longestSheet
+  -- rule 17.1: of longer bytes those of the longest sheet and one piece more say all
+  pub sheet-cut : (regimeEnd : ℕ) (bs : List ℕ) → longestSheet + entryBytes ≤ length bs → (t u : Sheet)
+      → SheetGives regimeEnd (take (longestSheet + entryBytes) bs) t → SheetGives regimeEnd bs u → t ≡ u
+  -- rule 16.1: what is printed of a minute is its date and time, and that of no other minute
+  pub date : (minute : ℕ) (r : Printed) → PrintMinuteGives minute r → answerNumber (r .answer) ≡ 0 → (r .text ≡ textOf (momentOf minute)) × RightDate minute
+  pub one-minute : (a b : ℕ) → a ≤ lastRegimeEnd → b ≤ lastRegimeEnd → SameFigures a b → a ≡ b

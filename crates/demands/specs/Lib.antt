@@ -4,4 +4,5 @@ pub mod Log
 pub mod Demand1
 pub mod Demand2
 pub mod Demand3
+pub mod Sheets
 pub mod Figures

@@ -5,7 +5,7 @@ use mathlib.Core.List.{List, [], _∷_, _++_}
 use Prim.Native.Nat.{ℕ, zero, suc, _+_, _-_, _≤_, _<_}
 use native.Mathlib.Omega.{arith}
 use lib.ListN.{length, take, drop, set, replicate, length-append, length-drop, length-replicate, take-append-drop}
-use lib.Seq.{set-at, append-snoc, length-take-le, take-append-seam, drop-append-seam}
+use lib.Seq.{set-at, set-append-seam, append-snoc, length-take-le, take-append-seam, drop-append-seam}
 use Rattle.lists.specs.Lists.{all, padded}
 use Rattle.lists.proofs.Tests.{and-left, and-right, and-made}
 
@@ -22,6 +22,16 @@ module _ {A : Type 0} (n : ℕ) (z : A) where
   padded-more l a k e h =
       let m : n - length l ≡ suc (n - (length l + 1)) = omega arith in
       rw (m, set-at l z (replicate (n - (length l + 1)) z) a k e, length-append l (a ∷ []), append-snoc l a (replicate (n - (length l + 1)) z))
+
+  -- the last that is held is another
+  pub padded-last : (front : List A) (a b : A) → set (padded n z (front ++ (a ∷ []))) (length front) b ≡ padded n z (front ++ (b ∷ []))
+  padded-last front a b =
+      let m : n - length (front ++ (a ∷ [])) ≡ n - length (front ++ (b ∷ [])) = omega (arith, length-append front (a ∷ []), length-append front (b ∷ [])) in
+      let rest = replicate (n - length (front ++ (b ∷ []))) z in
+      ap (λ (k : ℕ). set ((front ++ (a ∷ [])) ++ replicate k z) (length front) b) m
+      ∙ ap (λ (l : List A). set l (length front) b) (append-snoc front a rest)
+      ∙ set-append-seam front a rest b
+      ∙ sym (append-snoc front b rest)
 
 -- ---- a test that z passes, and nothing else
 module _ {A : Type 0} (n : ℕ) (z : A) (is : A → Bool) where

@@ -8,11 +8,11 @@ use native.Mathlib.Nat.{not-suc-le-zero}
 use borrow.Author.Tests.{eq-eqb, ne-eqb}
 use lib.ListN.{getD}
 use Rattle.refusals.specs.declared.Refusal.{Refusal}
-use Rattle.refusals.specs.declared.Refusal.the-variants.{BrokenLog, BadSpan, BadPower, SharedMinute, FullLog, NoSuchStart, BadStretch, BadBook, BadYear, FloorAboveCap, TooLarge, BadPeriod, Malformed, NoRoom}
+use Rattle.refusals.specs.declared.Refusal.the-variants.{BrokenLog, BadSpan, BadPower, SharedMinute, FullLog, NoSuchStart, BadStretch, BadBook, BadYear, FloorAboveCap, TooLarge, BadPeriod, Malformed, NoRoom, BadPiece}
 use Rattle.refusals.specs.declared.Answer.{Answer}
 use Rattle.refusals.specs.declared.Answer.the-variants.{Done, Refused}
 use Rattle.refusals.specs.Refusals.{refusalNumber, answerNumber, firstApplicable, accepted, Rows}
-use Rattle.refusals.specs.Order.{inTurn}
+use Rattle.refusals.specs.Order.{inTurn, onSheets}
 
 -- the refusals by their numbers, from 1
 byNumber : List Refusal
@@ -31,6 +31,7 @@ byNumber =
     ∷ BadPeriod
     ∷ Malformed
     ∷ NoRoom
+    ∷ BadPiece
     ∷ []
 
 named : ℕ → Refusal
@@ -53,6 +54,7 @@ named-number TooLarge = refl
 named-number BadPeriod = refl
 named-number Malformed = refl
 named-number NoRoom = refl
+named-number BadPiece = refl
 
 pub same-refusal : (r s : Refusal) → refusalNumber r ≡ refusalNumber s → r ≡ s
 same-refusal r s e = sym (named-number r) ∙ ap named e ∙ named-number s
@@ -72,6 +74,7 @@ never-zero TooLarge = omega arith
 never-zero BadPeriod = omega arith
 never-zero Malformed = omega arith
 never-zero NoRoom = omega arith
+never-zero BadPiece = omega arith
 
 pub same-answer : (a b : Answer) → answerNumber a ≡ answerNumber b → a ≡ b
 same-answer Done Done e = refl
@@ -122,3 +125,7 @@ module _ {A : Type 0} (rows : Rows) (n : ℕ) (given asked other : A) (number : 
 -- the numbers in the order in which they are looked for: each of 1 to 14 once
 pub turns : map refusalNumber inTurn ≡ 8 ∷ 1 ∷ 2 ∷ 3 ∷ 4 ∷ 5 ∷ 6 ∷ 7 ∷ 9 ∷ 12 ∷ 11 ∷ 10 ∷ 13 ∷ 14 ∷ []
 turns = refl
+
+-- and on a day sheet
+pub turns-on-sheets : map refusalNumber onSheets ≡ 8 ∷ 13 ∷ 15 ∷ 2 ∷ 3 ∷ 4 ∷ 5 ∷ []
+turns-on-sheets = refl

@@ -4,9 +4,11 @@ use mathlib.Core.List.{List, [], _∷_}
 use Prim.Native.Nat.{ℕ}
 use lib.Dec.{eqb}
 use Rattle.refusals.specs.declared.Refusal.{Refusal}
-use Rattle.refusals.specs.declared.Refusal.the-variants.{BrokenLog, BadSpan, BadPower, SharedMinute, FullLog, NoSuchStart, BadStretch, BadBook, BadYear, FloorAboveCap, TooLarge, BadPeriod, Malformed, NoRoom}
+use Rattle.refusals.specs.declared.Refusal.the-variants.{BrokenLog, BadSpan, BadPower, SharedMinute, FullLog, NoSuchStart, BadStretch, BadBook, BadYear, FloorAboveCap, TooLarge, BadPeriod, Malformed, NoRoom, BadPiece}
 use Rattle.refusals.specs.declared.Answer.{Answer}
 use Rattle.refusals.specs.declared.Answer.the-variants.{Done, Refused}
+use Rattle.refusals.specs.declared.Written.{Written}
+use Rattle.refusals.specs.declared.Written.the-variants as written
 
 -- rule 12.1: the number of each refusal
 abbrev pub refusalNumber : Refusal → ℕ
@@ -24,11 +26,21 @@ refusalNumber TooLarge = 11
 refusalNumber BadPeriod = 12
 refusalNumber Malformed = 13
 refusalNumber NoRoom = 14
+refusalNumber BadPiece = 15
 
 -- the number of an answer, 0 where the call is not refused
 abbrev pub answerNumber : Answer → ℕ
 answerNumber Done = 0
 answerNumber (Refused why) = refusalNumber why
+
+-- the number and the figure of a writing: how many bytes, none where it is refused
+abbrev pub writtenNumber : Written → ℕ
+writtenNumber (written.Length n) = 0
+writtenNumber (written.Refused why) = refusalNumber why
+
+abbrev pub lengthFigure : Written → ℕ
+lengthFigure (written.Length n) = n
+lengthFigure (written.Refused why) = 0
 
 -- the rows that a call checks: each a refusal, and whether it applies
 abbrev pub Rows : Type 0

@@ -27,15 +27,23 @@ pub enum Refusal {
     TooLarge,
     // 12: a day, a period or the gap of two is out of range
     BadPeriod,
-    // 13: the bytes are no return
+    // 13: the bytes are no return, or no day sheet
     Malformed,
-    // 14: the buffer has no room for the return
+    // 14: the buffer has no room for what is to be written
     NoRoom,
+    // 15: a piece of a day sheet does not fit behind the last, crosses midnight, or starts before the last
+    BadPiece,
 }
 
 // The answer of a call that gives nothing else.
 pub enum Answer {
     Done,
+    Refused(Refusal),
+}
+
+// How many bytes were written into a lent buffer, or why none.
+pub enum Written {
+    Length(usize),
     Refused(Refusal),
 }
 
@@ -59,6 +67,7 @@ impl Refusal {
             Refusal::BadPeriod => 12,
             Refusal::Malformed => 13,
             Refusal::NoRoom => 14,
+            Refusal::BadPiece => 15,
         }
     }
 }

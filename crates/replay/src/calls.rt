@@ -6,6 +6,7 @@ use super::fields::KEPT;
 use super::fields::of_year;
 use super::returns;
 use super::setting;
+use super::sheets;
 use super::showing;
 use codec::number;
 use levels::Book;
@@ -22,6 +23,7 @@ pub(crate) struct AfterSet {
 pub(crate) fn listed(call: u64, s: &[u8]) -> u64 {
     match call / 100_000 {
         17 => fitting(17_99999, 0 < s.len()),
+        23 => fitting(23_99999, 3 < s.len()),
         32 => fitting(call, number(s, 0, 2) < 400),
         35 => fitting(call, number(s, 16, 1) < 2),
         36 => fitting(call, number(s, 1, 1) < 64),
@@ -79,8 +81,10 @@ pub(crate) fn ask(
         7_00001 => asking::target(s, book, log),
         11_00000 => asking::period(book, years, log),
         22_00004 => returns::refile_kept(s, kept, bytes),
+        25_00004 => sheets::write(s, log, false),
         48_00000 => showing::log(log),
         50_00000 => showing::book(book),
+        52_00002 => sheets::write(s, log, true),
         _ => ask_of_year(call, s, book, y, log),
     }
 }
@@ -105,6 +109,8 @@ fn ask_of_value(call: u64, s: &[u8]) -> bool {
         14_00012 => asking::payment(s),
         15_00024 => asking::settle(s),
         16_00032 => asking::reconcile(s),
+        26_00004 => sheets::minute(s),
+        27_00010 => sheets::outage(s),
         _ => ask_at_length(call / 100_000, s),
     }
 }

@@ -5,6 +5,7 @@ mod fields;
 mod returns;
 mod say;
 mod setting;
+mod sheets;
 mod showing;
 mod sums;
 
@@ -68,6 +69,8 @@ fn carry_out(mut log: Log, mut book: Book, mut years: [Year; 5]) {
             1_00004 => log = asking::empty(s),
             2_00010 => log = asking::enter(s, log),
             3_00004 => log = asking::cancel(s, log),
+            23_99999 => log = sheets::read(s),
+            24_00004 => log = sheets::read_kept(s, &kept, bytes),
             32_00012 => log = setting::slot(s, log),
             33_00012 => log = setting::count(s, log),
             34_00062 => book = setting::book(s),

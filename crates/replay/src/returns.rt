@@ -6,10 +6,11 @@ use super::fields::u16_at;
 use super::fields::u32_at;
 use super::say;
 use super::sums;
+use refusals::Written;
 use return_printout::print_return;
 use return_reading::read_return;
-use return_writing::Written;
 use return_writing::write_return;
+use text::Text;
 use year::Year;
 ghost use mathlib.Core.Path.{_≡_};
 ghost use lib.ListN.{length};
@@ -37,7 +38,7 @@ pub(crate) fn read_kept(kept: &[u8; KEPT], bytes: usize) -> Year {
 }
 
 // Every byte of a lent buffer as it is before a call.
-fn fill(out: &mut [u8])
+pub(crate) fn fill(out: &mut [u8])
     ensures { λ _. ⌜ length (now (out .exit)) ≡ length (now (out .entry)) ⌝ }
 {
     let mut i: usize = 0;
@@ -67,7 +68,7 @@ fn told(n: u8, written: usize, out: &[u8], whole: bool) -> bool {
     say::end()
 }
 
-fn answer(done: Written, out: &[u8], whole: bool) -> bool {
+pub(crate) fn answer(done: Written, out: &[u8], whole: bool) -> bool {
     match done {
         Written::Length(n) => told(0, n, out, whole),
         Written::Refused(why) => told(why.number(), 0, out, whole),
@@ -87,8 +88,8 @@ fn room_to_lend() -> [u8; ROOM]
     [0; ROOM]
 }
 
-// Room to lend for the kept bytes.
-fn long_room() -> [u8; KEPT]
+// Room to lend for what may be as long as the kept bytes.
+pub(crate) fn long_room() -> [u8; KEPT]
     ensures { λ r. ⌜ 262144 ≡ length r ⌝ }
 {
     [0; KEPT]
@@ -125,10 +126,14 @@ pub(crate) fn refile_kept(s: &[u8], kept: &[u8; KEPT], bytes: usize) -> bool {
     refiled(&all[..n], &mut space[..m])
 }
 
+// A text: its length and its sum.
+pub(crate) fn printed(n: u8, t: Text) -> bool {
+    let bytes = t.bytes;
+    let length = clipped(t.length, &bytes);
+    say::two(n, length as u64, sums::of_bytes(&bytes[..length]))
+}
+
 // What `daysheet` prints of a return.
 pub(crate) fn print(s: &[u8]) -> bool {
-    let text = print_return(s);
-    let bytes = text.bytes;
-    let length = clipped(text.length, &bytes);
-    say::two(0, length as u64, sums::of_bytes(&bytes[..length]))
+    printed(0, print_return(s))
 }

@@ -42,7 +42,7 @@ pub(crate) fn more_of_ends(sum: u64, count: usize, regime_end: u32) -> u64 {
 }
 
 // The log, after what is summed already.
-fn more_of_log(sum: u64, log: Log) -> u64 {
+pub(crate) fn more_of_log(sum: u64, log: Log) -> u64 {
     let mut next = sum;
     let mut i: usize = 0;
     while i < Log::SLOTS {

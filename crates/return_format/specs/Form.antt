@@ -1,7 +1,7 @@
 -- The format of the yearly return, as rule 10.2 has it.
 use mathlib.Core.Bool.{Bool, not, _&&_}
 use mathlib.Core.List.{List, [], _∷_, _++_}
-use Prim.Native.Nat.{ℕ, _+_}
+use Prim.Native.Nat.{ℕ}
 use lib.Dec.{leb, ltb, eqb}
 use lib.IntN.{ℤ, pos}
 use Rattle.money.specs.Pounds.{isNone}
@@ -11,6 +11,7 @@ use Rattle.outage.specs.Log.{slots, lastRegimeEnd, validEntries}
 use Rattle.year.specs.declared.Line.{Line}
 use Rattle.year.specs.Year.{goodLine, lineSlots}
 use Rattle.codec.specs.Format.{Value, num, int, pair, mapped, restricted, Item, tagged, Codec, one, opt, many, both}
+use Rattle.outage_field.specs.Field.{entryLayout}
 
 -- ---- values
 -- 01: the year number
@@ -52,17 +53,7 @@ lineLayout = mapped toLine fromLine (pair (num 1 0 255) (pair (num 1 0 255) (int
 abbrev pub lineValue : Value Line
 lineValue = restricted goodLine lineLayout
 
--- 07: an outage
-abbrev pub toEntry : ℕ × (ℕ × ℕ) → Entry
-toEntry p = record { start = p .0; end = p .1 .0; mw = p .1 .1 }
-
-abbrev pub fromEntry : Entry → ℕ × (ℕ × ℕ)
-fromEntry e = (e .start, (e .end, e .mw))
-
-abbrev pub entryLayout : Value Entry
-entryLayout = mapped toEntry fromEntry (pair (num 4 0 4294967295) (pair (num 4 0 4294967295) (num 2 0 65535)))
-
--- it starts from a first minute on and before an end
+-- 07: an outage, which starts from a first minute on and before an end
 abbrev pub startsBetween : ℕ → ℕ → Entry → Bool
 startsBetween first end e = leb first (e .start) && ltb (e .start) end
 
@@ -88,10 +79,6 @@ wpaValue = restricted (λ z. not (isNone z)) (int 1000000000)
 -- ---- fields
 abbrev pub lineItem : List Line → Item Line
 lineItem before = tagged 6 lineValue
-
--- how many bytes the field of an outage has: a head of three, and its layout
-abbrev pub entryBytes : ℕ
-entryBytes = 3 + entryLayout .len
 
 abbrev pub entryItem : ℕ → List Entry → Item Entry
 entryItem number before = tagged 7 (entryValue number before)

@@ -7,10 +7,6 @@ use Rattle.text.specs.Text.{pushed}
 use Rattle.text.proofs.Laws.{pushed-append}
 use Rattle.return_printout.specs.Printout.{lineOf}
 
--- bytes, and then others
-pub then : (t : Text) {a b : Text} (x y : List ℕ) → a ≡ pushed t x → b ≡ pushed a y → b ≡ pushed t (x ++ y)
-then t x y e f = f ∙ ap (λ (u : Text). pushed u y) e ∙ sym (pushed-append t x y)
-
 -- a word, a figure and a newline
 pub line : (t : Text) {a b c : Text} (word figure : List ℕ) → a ≡ pushed t word → b ≡ pushed a figure → c ≡ pushed b (10 ∷ []) → c ≡ pushed t (lineOf word figure)
 line t word figure e f g = g ∙ ap (λ (u : Text). pushed u (10 ∷ [])) (f ∙ ap (λ (u : Text). pushed u figure) e) ∙ sym (pushed-append t word (figure ++ (10 ∷ [])) ∙ pushed-append (pushed t word) figure (10 ∷ []))

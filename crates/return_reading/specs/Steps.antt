@@ -14,12 +14,11 @@ use Rattle.calendar.specs.Years.{goodYearNumber}
 use Rattle.codec.specs.Fields.{framed}
 use Rattle.codec.specs.Leaves.{Spells}
 use Rattle.codec.specs.Format.{Value, restricted, malformed, ReadAt, StoppedAt}
-use Rattle.return_format.specs.Form.{entryLayout, startsBetween, lines, outages, required, body}
+use Rattle.outage_field.specs.Field.{entryLayout}
+use Rattle.return_format.specs.Form.{startsBetween, lines, outages, required, body}
 use Rattle.return_reading.specs.declared.fields.Three.{Three}
 use Rattle.return_reading.specs.declared.fields.LineAt.{LineAt}
 use Rattle.return_reading.specs.declared.fields.LineAt.the-variants as L
-use Rattle.return_reading.specs.declared.fields.EntryAt.{EntryAt}
-use Rattle.return_reading.specs.declared.fields.EntryAt.the-variants as E
 use Rattle.return_reading.specs.declared.fields.FactorsAt.{FactorsAt}
 use Rattle.return_reading.specs.declared.fields.FactorsAt.the-variants as F
 use Rattle.return_reading.specs.declared.rows.Lines.{Lines}
@@ -33,10 +32,6 @@ use Rattle.return_reading.specs.declared.Required.the-variants as R
 abbrev pub lineFound : Option Line → LineAt
 lineFound none = L.Not
 lineFound (some l) = L.Is l
-
-abbrev pub entryFound : Option Entry → EntryAt
-entryFound none = E.Not
-entryFound (some e) = E.Is e
 
 abbrev pub factorsFound : Option (ℕ × ℕ) → FactorsAt
 factorsFound none = F.Not

@@ -12,8 +12,8 @@ use Rattle.outage.specs.Log.{validLog}
 use Rattle.year.specs.declared.Year.{Year}
 use Rattle.codec.specs.Theorems.{Bytes}
 use Rattle.return_format.specs.Return.{isRefused, readingOf, readRows, readYear, writable, validYear, returnOf}
-use Rattle.return_writing.specs.declared.Written.{Written}
-use Rattle.return_writing.specs.declared.Written.the-variants.{Refused}
+use Rattle.refusals.specs.declared.Written.{Written}
+use Rattle.refusals.specs.declared.Written.the-variants.{Refused}
 use Rattle.return_writing.specs.Written.{WriteGives}
 use Rattle.return_round_trip.proofs.RoundTrip.{accepted-whole, read-written}
 use Rattle.return_refiling.specs.Refiled.{RefileGives}

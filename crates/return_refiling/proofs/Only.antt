@@ -6,8 +6,8 @@ use Prim.Native.Nat.{ℕ}
 use lib.ListN.{length}
 use Rattle.refusals.specs.Order.{inTurn, inOrderOf}
 use Rattle.refusals.specs.Answers.{One}
-use Rattle.return_writing.specs.declared.Written.{Written}
-use Rattle.return_writing.proofs.Only.{only-laid, one-laid}
+use Rattle.refusals.specs.declared.Written.{Written}
+use Rattle.refusals.proofs.Writing.{only-laid, one-laid}
 use Rattle.return_refiling.specs.Refiled.{refileRows, refiledBuffer, RefileGives}
 
 pub only-refile : (bs out : List ℕ) (r s : Written) (o p : List ℕ) → RefileGives bs out r o → RefileGives bs out s p → (r ≡ s) × (o ≡ p)

@@ -4,12 +4,11 @@ use mathlib.Core.Path.{_≡_}
 use Prim.Native.Nat.{ℕ}
 use lib.Dec.{ltb}
 use lib.ListN.{length}
-use Rattle.refusals.specs.Refusals.{Rows, accepted, firstApplicable}
+use Rattle.refusals.specs.Refusals.{Rows, accepted, firstApplicable, writtenNumber, lengthFigure}
+use Rattle.refusals.specs.declared.Written.{Written}
 use Rattle.refusals.specs.declared.Refusal.the-variants.{Malformed, NoRoom}
 use Rattle.codec.specs.Message.{lengthIn, bufferIn}
 use Rattle.return_format.specs.Return.{readingOf, isRefused}
-use Rattle.return_writing.specs.declared.Written.{Written}
-use Rattle.return_writing.specs.Written.{writtenNumber, lengthFigure}
 
 -- 13, the bytes are no return; 14, the buffer has no room for them
 abbrev pub refileRows : List ℕ → ℕ → Rows

@@ -1,7 +1,7 @@
 // Reads a return and writes it again into a lent buffer: its own bytes come back.
 use refusals::Answer;
+use refusals::Written;
 use return_reading::read_return;
-use return_writing::Written;
 use return_writing::write_return;
 ghost use Rattle.return_refiling.specs.Refiled.{RefileGives};
 

@@ -19,7 +19,9 @@ use Rattle.codec.proofs.Formats.{Lawful, one-lawful, opt-lawful, both-lawful}
 use Rattle.codec.proofs.Places.{Placed, Numbered, one-placed, opt-placed, both-placed, one-numbered, opt-numbered, both-numbered}
 use Rattle.codec.proofs.Every.{many-lawful, many-placed, many-numbered}
 use Rattle.money.specs.Pounds.{isNone}
-use Rattle.return_format.specs.Form.{yearValue, pppiValue, rateValue, aicValue, leftOut, isLeftOut, factorsValue, toLine, fromLine, lineLayout, lineValue, toEntry, fromEntry, entryLayout, mayFollow, entryValue, markValue, wpaValue, lineItem, entryItem, factors, mark, wpa, required, body, form}
+use Rattle.outage_field.specs.Field.{entryLayout}
+use Rattle.outage_field.proofs.Laws.{layout-laws}
+use Rattle.return_format.specs.Form.{yearValue, pppiValue, rateValue, aicValue, leftOut, isLeftOut, factorsValue, toLine, fromLine, lineLayout, lineValue, mayFollow, entryValue, markValue, wpaValue, lineItem, entryItem, factors, mark, wpa, required, body, form}
 
 -- ---- values
 line-laws : ValueLaws lineValue
@@ -28,12 +30,6 @@ line-laws =
     (mapped-laws toLine fromLine (pair (num 1 0 255) (pair (num 1 0 255) (int 1000000000))) (λ l. refl) (λ p. refl)
     (pair-laws (num 1 0 255) (pair (num 1 0 255) (int 1000000000)) (num-laws 1 0 255 (omega arith))
     (pair-laws (num 1 0 255) (int 1000000000) (num-laws 1 0 255 (omega arith)) (int-laws 1000000000 (omega arith)))))
-
-layout-laws : ValueLaws entryLayout
-layout-laws =
-    mapped-laws toEntry fromEntry (pair (num 4 0 4294967295) (pair (num 4 0 4294967295) (num 2 0 65535))) (λ e. refl) (λ p. refl)
-    (pair-laws (num 4 0 4294967295) (pair (num 4 0 4294967295) (num 2 0 65535)) (num-laws 4 0 4294967295 (omega arith))
-    (pair-laws (num 4 0 4294967295) (num 2 0 65535) (num-laws 4 0 4294967295 (omega arith)) (num-laws 2 0 65535 (omega arith))))
 
 entry-laws : (number : ℕ) (before : List Entry) → ValueLaws (entryValue number before)
 entry-laws number before = restricted-laws (mayFollow number before) entryLayout layout-laws

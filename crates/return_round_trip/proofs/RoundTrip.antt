@@ -21,7 +21,8 @@ use Rattle.codec.proofs.Message as Message
 use Rattle.codec.proofs.Values.{num-laws}
 use Rattle.codec.proofs.Lengths.{field-length, unless-length, texts-length, sizes-most}
 use Rattle.money.specs.Pounds.{isNone}
-use Rattle.return_format.specs.Form.{yearValue, pppiValue, rateValue, aicValue, isLeftOut, factorsValue, markValue, wpaValue, lineItem, entryItem, entryBytes, Parts, form}
+use Rattle.outage_field.specs.Field.{entryBytes}
+use Rattle.return_format.specs.Form.{yearValue, pppiValue, rateValue, aicValue, isLeftOut, factorsValue, markValue, wpaValue, lineItem, entryItem, Parts, form}
 use Rattle.return_round_trip.specs.Flat.{longest}
 use Rattle.return_format.specs.Return.{yearOf, partsOf, mostBytes, Reading, whole, refused, readingOf, isRefused, yearIn, readRows, readYear, validYear, returnOf}
 use Rattle.return_round_trip.specs.Places.{IsReturnOf}

@@ -14,7 +14,7 @@ use Rattle.lists.proofs.Padded.{padded-front, padded-free, padded-back}
 use Rattle.lists.proofs.Tests.{and-left, and-right, and-made}
 use Rattle.entries.specs.declared.Entry.{Entry}
 use Rattle.outage.specs.Log.{slots, lastRegimeEnd, goodEntry, validEntries, rowOf, validLog, logEntries, logHolding}
-use Rattle.entries.proofs.Order.{KeepsRules, rules-say, rules-made, follows, follows-valid, good-span, good-end, good-most}
+use Rattle.entries.proofs.Order.{KeepsRules, rules-say, rules-made, follows, follows-valid}
 use Rattle.entries.proofs.Rows.{Valid, valid-says}
 use Rattle.outage.proofs.LogHolding.{log-entries-length, holds, log-holding-entries, log-holding-valid}
 use Rattle.year.specs.declared.Line.{Line}
@@ -23,7 +23,9 @@ use Rattle.year.specs.Year.{goodWpa, goodLine, isZeroLine, goodLines, goodYear,
 use Rattle.year.proofs.Says.{line-says, LinesSay, lines-say, YearSays, year-says}
 use Rattle.codec.specs.Format.{num, pair, allFine}
 use Rattle.money.specs.Pounds.{isNone}
-use Rattle.return_format.specs.Form.{yearValue, pppiValue, rateValue, aicValue, isLeftOut, factorsValue, lineLayout, lineValue, entryLayout, startsIn, mayFollow, entryValue, wpaValue, lineItem, entryItem, factors, lines, outages, mark, wpa, Parts, required, form}
+use Rattle.outage_field.specs.Field.{entryLayout}
+use Rattle.outage_field.proofs.Laws.{entry-fine}
+use Rattle.return_format.specs.Form.{yearValue, pppiValue, rateValue, aicValue, isLeftOut, factorsValue, lineLayout, lineValue, startsIn, mayFollow, entryValue, wpaValue, lineItem, entryItem, factors, lines, outages, mark, wpa, Parts, required, form}
 use Rattle.return_format.specs.Return.{yearOf, partsOf, logFits, writable, validYear}
 use Rattle.return_round_trip.proofs.Lawful.{none-is}
 
@@ -106,12 +108,6 @@ follows-front re from (e ∷ a) b f =
 valid-front : (re : ℕ) (a b : List Entry) → validEntries re (a ++ b) ≡ true → validEntries re a ≡ true
 valid-front re a b v = sym (follows-valid re a) ∙ follows-front re 0 a b (follows-valid re (a ++ b) ∙ v)
 
-entry-fine : (e : Entry) → goodEntry lastRegimeEnd e ≡ true → entryLayout .fine e ≡ true
-entry-fine e g =
-    and-made (and-made (le-leb 0 (e .start) (omega arith)) (le-leb (e .start) 4294967295 (omega (arith, good-span lastRegimeEnd e g, good-end lastRegimeEnd e g))))
-    (and-made (and-made (le-leb 0 (e .end) (omega arith)) (le-leb (e .end) 4294967295 (omega (arith, good-end lastRegimeEnd e g))))
-    (and-made (le-leb 0 (e .mw) (omega arith)) (le-leb (e .mw) 65535 (omega (arith, good-most lastRegimeEnd e g)))))
-
 module _ (number : ℕ) where
   entries-fine : (before es : List Entry) → all (startsIn number) es ≡ true → all (goodEntry lastRegimeEnd) es ≡ true → validEntries lastRegimeEnd (before ++ es) ≡ true → allFine (entryItem number) before es ≡ true
   unfolding allFine
@@ -119,7 +115,7 @@ module _ (number : ℕ) where
   entries-fine before (e ∷ es) s g v =
       let w : validEntries lastRegimeEnd ((before ++ (e ∷ [])) ++ es) ≡ true = ap (validEntries lastRegimeEnd) (append-snoc before e es) ∙ v in
       and-made
-      (and-made (entry-fine e (and-left (goodEntry lastRegimeEnd e) (all (goodEntry lastRegimeEnd) es) g))
+      (and-made (entry-fine lastRegimeEnd (omega arith) e (and-left (goodEntry lastRegimeEnd e) (all (goodEntry lastRegimeEnd) es) g))
       (and-made (and-left (startsIn number e) (all (startsIn number) es) s) (valid-front lastRegimeEnd (before ++ (e ∷ [])) es w)))
       (entries-fine (before ++ (e ∷ [])) es (and-right (startsIn number e) (all (startsIn number) es) s) (and-right (goodEntry lastRegimeEnd e) (all (goodEntry lastRegimeEnd) es) g) w)
 

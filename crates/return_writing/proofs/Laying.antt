@@ -8,7 +8,6 @@ use lib.IntN.{ℤ}
 use lib.ListN.{length}
 use mir.Syntax.{w64}
 use mir.Val.{ofZ}
-use Rattle.entries.specs.declared.Entry.{Entry}
 use Rattle.year.specs.declared.Line.{Line}
 use Rattle.year.specs.declared.Year.{Year}
 use Rattle.codec.specs.Fields.{head}
@@ -17,7 +16,7 @@ use Rattle.codec.specs.Buffers.{Wrote}
 use Rattle.codec.specs.Leaves.{numberBytes, numberFieldBytes}
 use Rattle.codec.proofs.Buffers.{then, nothing}
 use Rattle.codec.proofs.Putting.{room-after, room-for, Laid, run-then, number-then, number-last, field-then, field-last}
-use Rattle.return_format.specs.Form.{factorsValue, wpaValue, lineValue, entryLayout, mark, required}
+use Rattle.return_format.specs.Form.{factorsValue, wpaValue, lineValue, mark, required}
 use Rattle.return_format.specs.Return.{returnOf}
 use Rattle.return_writing.proofs.Sizes.{parts-of, headed, factored, lined, logged, marked, paid}
 
@@ -46,12 +45,6 @@ module _ {o : List ℕ} {at : ℕ} {o1 : List ℕ} {n1 : ℕ} {o2 : List ℕ} {n
     unfolding fieldOf
     line-laid l e r a b c d =
         run-then (head 6 10) r a (λ r. number-then 1 (l .kind) (omega arith) r b (λ r. number-then 1 (l .currency) (omega arith) r c (λ r. number-last 8 (ofZ w64 (l .amount)) (omega arith) r (rw e at d))))
-
-    pub entry-laid : (e : Entry) → at + length (fieldOf 7 entryLayout e) ≤ length o
-        → Laid o at (head 7 10) o1 n1 → Laid o1 n1 (numberBytes 4 (e .start)) o2 n2 → Laid o2 n2 (numberBytes 4 (e .end)) o3 n3 → Laid o3 n3 (numberBytes 2 (e .mw)) o4 n4 → Wrote o at (fieldOf 7 entryLayout e) o4 n4
-    unfolding fieldOf
-    entry-laid e r a b c d =
-        run-then (head 7 10) r a (λ r. number-then 4 (e .start) (omega arith) r b (λ r. number-then 4 (e .end) (omega arith) r c (λ r. number-last 2 (e .mw) (omega arith) r d)))
 
     pub required-laid : (number pppi rate aic : ℕ) → at + length (required .write (number, (pppi, (rate, aic)))) ≤ length o
         → Laid o at (numberFieldBytes 1 1 number) o1 n1 → Laid o1 n1 (numberFieldBytes 2 4 pppi) o2 n2 → Laid o2 n2 (numberFieldBytes 3 4 rate) o3 n3 → Laid o3 n3 (numberFieldBytes 4 2 aic) o4 n4

@@ -19,7 +19,9 @@ use Rattle.codec.specs.Format.{fieldOf, texts, unless}
 use Rattle.codec.proofs.Numbers.{bytes-length}
 use Rattle.codec.proofs.Items.{length-head}
 use Rattle.codec.proofs.Lengths.{texts-size, sizes-same}
-use Rattle.return_format.specs.Form.{factorsValue, markValue, wpaValue, lineValue, entryLayout, entryItem, entryBytes, lineItem, factors, mark, wpa, required, form}
+use Rattle.outage_field.specs.Field.{entryLayout, entryBytes}
+use Rattle.outage_field.proofs.Laws.{entry-size}
+use Rattle.return_format.specs.Form.{factorsValue, markValue, wpaValue, lineValue, entryItem, lineItem, factors, mark, wpa, required, form}
 use Rattle.return_format.specs.Return.{logFits, writable, returnOf, validYear}
 use Rattle.return_writing.specs.Written.{anyEntry, noEntries, noLines}
 
@@ -27,10 +29,6 @@ use Rattle.return_writing.specs.Written.{anyEntry, noEntries, noLines}
 pub line-size : (l : Line) → length (fieldOf 6 lineValue l) ≡ 13
 unfolding fieldOf
 line-size l = simp (length-append, length-head, bytes-length)
-
-pub entry-size : (e : Entry) → length (fieldOf 7 entryLayout e) ≡ entryBytes
-unfolding fieldOf
-entry-size e = simp (length-append, length-head, bytes-length)
 
 pub factors-size : (number : ℕ) (f : ℕ × ℕ) → length (fieldOf 5 (factorsValue number) f) ≡ 7
 unfolding fieldOf
@@ -114,7 +112,7 @@ module _ (y : Year) (valid : validYear y ≡ true) where
   module _ (e : length (y .log .entries) ≡ slots) where
     outages-size : length (logged y) ≡ entryBytes * y .log .count
     outages-size =
-        texts-size anyEntry (λ before x. entry-size x) noEntries (logEntries (y .log))
+        texts-size anyEntry (λ before x. entry-size 7 x) noEntries (logEntries (y .log))
         ∙ sizes-same anyEntry entryBytes (λ before x. refl) noEntries (logEntries (y .log))
         ∙ ap (λ (n : ℕ). entryBytes * n) (length-take-le (y .log .count) (y .log .entries) (omega (arith, few-outages)))
 

@@ -26,7 +26,7 @@ use Rattle.year.specs.Year.{goodYear, checkYearRows}
 use Rattle.codec.specs.Buffers.{Wrote}
 use Rattle.codec.proofs.Buffers.{front}
 use Rattle.return_format.specs.Return.{logFits, writable, returnOf, validYear}
-use Rattle.return_writing.specs.declared.Written.the-variants as W
+use Rattle.refusals.specs.declared.Written.the-variants as W
 use Rattle.return_writing.specs.Written.{writableRows, WriteGives}
 
 -- ---- a test of the first `count` of a row, one by one

@@ -5,25 +5,17 @@ use mathlib.Core.Path.{_≡_}
 use Prim.Native.Nat.{ℕ, _+_}
 use lib.IntN.{ℤ}
 use lib.ListN.{length}
-use Rattle.refusals.specs.Refusals.{Rows, refusalNumber, firstApplicable}
+use Rattle.refusals.specs.Refusals.{Rows, firstApplicable, writtenNumber, lengthFigure}
 use Rattle.refusals.specs.declared.Refusal.the-variants.{BrokenLog, BadYear}
+use Rattle.refusals.specs.declared.Written.{Written}
 use Rattle.entries.specs.declared.Entry.{Entry}
 use Rattle.outage.specs.Log.{validLog}
 use Rattle.year.specs.declared.Line.{Line}
 use Rattle.year.specs.declared.Year.{Year}
 use Rattle.codec.specs.Format.{Item, tagged}
-use Rattle.return_format.specs.Form.{entryLayout, factors, mark, wpa}
+use Rattle.outage_field.specs.Field.{entryLayout}
+use Rattle.return_format.specs.Form.{factors, mark, wpa}
 use Rattle.return_format.specs.Return.{writable, writeRows, writtenLength, writtenBuffer}
-use Rattle.return_writing.specs.declared.Written.{Written}
-use Rattle.return_writing.specs.declared.Written.the-variants.{Length, Refused}
-
-abbrev pub writtenNumber : Written → ℕ
-writtenNumber (Length n) = 0
-writtenNumber (Refused why) = refusalNumber why
-
-abbrev pub lengthFigure : Written → ℕ
-lengthFigure (Length n) = n
-lengthFigure (Refused why) = 0
 
 -- what `write_return` promises of its result, and of the buffer after it
 abbrev pub WriteGives : Year → List ℕ → Written → List ℕ → Type 0

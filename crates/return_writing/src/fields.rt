@@ -1,10 +1,10 @@
 // Single fields of a return, written into a buffer with room for them.
-use super::rows::OUTAGE_BYTES;
 use codec::put;
 use codec::put_head;
 use codec::put_number;
 use codec::unsigned;
 use money::magnitude;
+use outage_field::FoundEntry;
 use return_format::Factors;
 use return_format::Return;
 ghost use mathlib.Core.Path.{_≡_};
@@ -14,7 +14,8 @@ ghost use lib.ListN.{length};
 ghost use Rattle.outage.specs.Log.{slots};
 ghost use Rattle.year.specs.Year.{lineSlots};
 ghost use Rattle.codec.specs.Buffers.{Wrote};
-ghost use Rattle.return_format.specs.Form.{entryBytes, factors, mark, wpa};
+ghost use Rattle.outage_field.specs.Field.{entryBytes};
+ghost use Rattle.return_format.specs.Form.{factors, mark, wpa};
 ghost use Rattle.return_writing.specs.Written.{restSize};
 
 // 05: the partial-year factors, unless a return of the year leaves them out.
@@ -84,5 +85,7 @@ pub(crate) fn size_of(
     requires { ⌜ (lines ≤ lineSlots) × (outages ≤ slots) ⌝ }
     ensures { λ r. ⌜ r ≡ 23 + (13 * lines + (entryBytes * outages + restSize year pyc pyf exceptional paid)) ⌝ }
 {
-    23 + (13 * lines + (OUTAGE_BYTES * outages + size_of_rest(year, pyc, pyf, exceptional, paid)))
+    23
+        + (13 * lines
+            + (FoundEntry::BYTES * outages + size_of_rest(year, pyc, pyf, exceptional, paid)))
 }

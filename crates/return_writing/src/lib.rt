@@ -11,6 +11,7 @@ use fields::put_wpa;
 use fields::size_of;
 use refusals::Answer;
 use refusals::Refusal;
+use refusals::Written;
 use return_format::Return;
 use rows::put_lines;
 use rows::put_outages;
@@ -23,12 +24,6 @@ ghost use Rattle.codec.specs.Buffers.{Wrote};
 ghost use Rattle.return_format.specs.Form.{required};
 ghost use Rattle.return_format.specs.Return.{returnOf, validYear};
 ghost use Rattle.return_writing.specs.Written.{WriteGives};
-
-// How many bytes were written, or why none.
-pub enum Written {
-    Length(usize),
-    Refused(Refusal),
-}
 
 // The four required fields.
 fn put_required(number: u8, pppi: u32, rate: u32, aic: u16, out: &mut [u8]) -> usize

@@ -29,6 +29,10 @@ byte-pushed a x h =
     let f : 64 - length a ≡ suc (64 - (length a + 1)) = omega arith in
     rw (lt-ltb (length a) 64 h, n, f, set-append-seam, append-snoc)
 
+-- bytes, and then others
+pub then : (t : Text) {a b : Text} (x y : List ℕ) → a ≡ pushed t x → b ≡ pushed a y → b ≡ pushed t (x ++ y)
+then t x y e f = f ∙ ap (λ (u : Text). pushed u y) e ∙ sym (pushed-append t x y)
+
 -- where there is room for all, all are held
 pub pushed-text : (a b : List ℕ) → length a + length b ≤ 64 → pushed (textOf a) b ≡ textOf (a ++ b)
 unfolding pushed

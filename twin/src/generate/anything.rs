@@ -121,7 +121,7 @@ impl Generator {
         } else {
             (self.any_period(), self.any_period())
         };
-        match self.random.below(34) {
+        match self.random.below(40) {
             0 => Call::Empty { regime_end: self.any_u32() },
             1 => Call::Enter { outage: self.any_outage() },
             2 => Call::Cancel { start: self.any_u32() },
@@ -161,7 +161,25 @@ impl Generator {
             30 => Call::ShowBook,
             31 => Call::Empty { regime_end: self.random.fair_regime_end() },
             32 => Call::SetBook { book: self.random.fair_book(self.desk.log.regime_end) },
-            _ => Call::Enter { outage: Slot { start: 5, end: 9, mw: self.random.mw() } },
+            33 => Call::Enter { outage: Slot { start: 5, end: 9, mw: self.random.mw() } },
+            _ => self.any_sheet_call(),
+        }
+    }
+
+    fn any_sheet_call(&mut self) -> Call {
+        let regime_end =
+            if self.random.one_in(2) { self.any_u32() } else { self.random.fair_regime_end() };
+        match self.random.below(7) {
+            0 => {
+                let bytes = self.random.next().to_be_bytes().repeat(self.random.below(9) as usize);
+                Call::ReadSheet { regime_end, bytes }
+            }
+            1 => Call::ReadSheet { regime_end, bytes: self.some_sheet(regime_end) },
+            2 => Call::ReadSheetKept { regime_end },
+            3 => Call::WriteSheet { room: self.sheet_room() },
+            4 => Call::Keep { bytes: self.some_sheet(regime_end) },
+            5 => Call::PrintMinute { minute: self.any_u32() },
+            _ => Call::PrintOutage { outage: self.any_outage() },
         }
     }
 }

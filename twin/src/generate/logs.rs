@@ -5,7 +5,8 @@ use crate::model::calendar::year_minutes;
 use crate::model::log::{Slot, LAST_REGIME_END, SLOTS};
 use crate::script::Call;
 
-fn minute(number: i128) -> u32 {
+/// A number as a minute, the nearest where it is none.
+pub fn minute(number: i128) -> u32 {
     number.clamp(0, u32::MAX as i128) as u32
 }
 
@@ -307,7 +308,7 @@ impl Generator {
     }
 
     /// Breaks the log that stands, which has so many entries, in one way.
-    fn break_log(&mut self, count: usize) {
+    pub fn break_log(&mut self, count: usize) {
         let log = self.desk.log.clone();
         let place = self.random.below(count.max(1) as u64) as usize;
         let mut slot = log.slots[place];

@@ -71,20 +71,25 @@ impl Generator {
             let more = self.random.pick(&[65_535, 66_000, 131_072, 262_144]);
             bytes.resize(bytes.len() + more, self.random.pick(&[0, 7, 255]));
         }
-        self.call(Call::Forget);
-        let mut left = &bytes[..];
-        while !left.is_empty() {
-            let most = left.len().min(65_535) as u64;
-            let part = 1 + self.random.below(most) as usize;
-            self.call(Call::Keep { bytes: left[..part].to_vec() });
-            left = &left[part..];
-        }
+        self.keep_all(&bytes);
         self.call(Call::ReadKept { k });
         let room = match self.random.below(40) {
             0 => self.random.pick(&[65_536, 100_000, 262_144, 262_145, u32::MAX]),
             _ => self.some_room(k) as u32,
         };
         self.call(Call::RefileKept { room });
+    }
+
+    /// Keeps these bytes and no others, in parts.
+    pub fn keep_all(&mut self, bytes: &[u8]) {
+        self.call(Call::Forget);
+        let mut left = bytes;
+        while !left.is_empty() {
+            let most = left.len().min(65_535) as u64;
+            let part = 1 + self.random.below(most) as usize;
+            self.call(Call::Keep { bytes: left[..part].to_vec() });
+            left = &left[part..];
+        }
     }
 
     /// A year that was read, changed in one thing and written.
@@ -134,22 +139,13 @@ impl Generator {
         }
     }
 
-    /// Room for year k: exactly enough, one less, none, more.
+    /// Room for year k.
     pub fn some_room(&mut self, k: u8) -> u16 {
         let length = match write(&self.desk.years[k as usize], MOST_BYTES) {
             Ok(bytes) => bytes.len() as u16,
             Err(_) => self.random.below(100) as u16,
         };
-        match self.random.below(10) {
-            0..=2 => length,
-            3 | 4 => length.saturating_sub(1),
-            5 => 0,
-            6 => length + 1,
-            7 => length + self.random.below(60) as u16,
-            8 => self.random.below(length as u64 + 1) as u16,
-            _ if self.random.one_in(50) => 65_535,
-            _ => length + 3,
-        }
+        self.random.room_for(length as u32) as u16
     }
 
     /// A good return of a year with these outages and so many lines.

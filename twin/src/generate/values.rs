@@ -38,6 +38,20 @@ impl Random {
         self.between(1, 25) as u8
     }
 
+    /// Room for so many bytes: exactly enough, one less, none, more.
+    pub fn room_for(&mut self, length: u32) -> u32 {
+        match self.below(10) {
+            0..=2 => length,
+            3 | 4 => length.saturating_sub(1),
+            5 => 0,
+            6 => length + 1,
+            7 => length + self.below(60) as u32,
+            8 => self.below(length as u64 + 1) as u32,
+            _ if self.one_in(50) => 65_535,
+            _ => length + 3,
+        }
+    }
+
     /// Any minute, most of them in the licence's time.
     pub fn minute(&mut self) -> u32 {
         let near = self.between(-1, 1);

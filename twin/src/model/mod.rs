@@ -8,13 +8,16 @@ pub mod assessment;
 pub mod big;
 pub mod book;
 pub mod calendar;
+pub mod dates;
 pub mod daysheet;
 pub mod growth;
 pub mod levels;
 pub mod log;
+pub mod oldsheet;
 pub mod revenue;
 pub mod rounding;
 pub mod settlement;
+pub mod sheet;
 pub mod sums;
 pub mod year;
 pub mod yearly_return;
@@ -22,7 +25,7 @@ pub mod yearly_return;
 #[cfg(test)]
 mod figures;
 
-/// A refusal's number, 1 to 14.
+/// A refusal's number, 1 to 15.
 pub type Refusal = u8;
 
 /// 10^9, the limit of amounts and levels.

@@ -5,7 +5,7 @@ use lib.IntN.{ℤ}
 use Rattle.money.proofs.Pounds.{wire}
 use Rattle.text.specs.Text.{decimal, pushed, signedDecimal, textOf}
 use Rattle.return_printout.specs.Printout.{lineOf, revenueWord, yearWord, yearLines}
-use Rattle.return_printout.proofs.Lines.{then}
+use Rattle.text.proofs.Laws.{then}
 use borrow.Author.Needs.{needs}
 use Rattle.return_printout.proofs.lines_of.Statement.{statement}
 use Rattle.return_printout.proofs.lines_of.Tie as tie

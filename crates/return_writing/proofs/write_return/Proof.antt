@@ -10,7 +10,7 @@ use Rattle.money.proofs.Pounds.{wire}
 use Rattle.refusals.specs.declared.Refusal.the-variants.{NoRoom}
 use Rattle.refusals.specs.Refusals.{answerNumber}
 use Rattle.return_format.specs.Return.{returnOf, validYear}
-use Rattle.return_writing.specs.declared.Written.the-variants.{Refused}
+use Rattle.refusals.specs.declared.Written.the-variants.{Refused}
 use Rattle.return_writing.specs.Written.{WriteGives}
 use Rattle.return_writing.proofs.Writable.{writable-valid, gives-refused, gives-no-room, gives-length}
 use Rattle.return_writing.proofs.Sizes.{few-lines, few-outages, year-size}

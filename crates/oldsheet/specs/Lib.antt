@@ -1,0 +1,3 @@
+-- What the contracts of oldsheet cite.
+pub mod Input
+pub mod Printout

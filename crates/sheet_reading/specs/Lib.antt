@@ -1,0 +1,3 @@
+-- What reading a day sheet gives, and its steps.
+pub mod Reading
+pub mod Steps

@@ -1,0 +1,2 @@
+-- What it is to be a day sheet.
+pub mod Sheets

@@ -1,0 +1,2 @@
+-- What writing a day sheet answers.
+pub mod Written
