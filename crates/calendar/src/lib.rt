@@ -1,7 +1,7 @@
 // The Relevant Years of the regime: rules 2.1 and 2.2.
 use refusals::Refusal;
 ghost use mathlib.Core.Path.{_≡_};
-ghost use Prim.Native.Nat.{_≤_};
+ghost use Prim.Native.Nat.{suc, _+_, _<_, _≤_};
 ghost use Rattle.calendar.specs.Years.{endFigure, firstFigure, isLeap, lastYear, yearStart, MinutesGives};
 
 // The numbers of the first and the last Relevant Year.
@@ -9,34 +9,12 @@ pub const FIRST_YEAR: u8 = 1;
 
 pub const LAST_YEAR: u8 = 25;
 
-// Where a Relevant Year starts: 00:00 on 31 January 2019, then 1 January 2020 to 2043, in minutes.
-const YEAR_STARTS: [u32; 25] = [
-    0,
-    482_400,
-    1_009_440,
-    1_535_040,
-    2_060_640,
-    2_586_240,
-    3_113_280,
-    3_638_880,
-    4_164_480,
-    4_690_080,
-    5_217_120,
-    5_742_720,
-    6_268_320,
-    6_793_920,
-    7_320_960,
-    7_846_560,
-    8_372_160,
-    8_897_760,
-    9_424_800,
-    9_950_400,
-    10_476_000,
-    11_001_600,
-    11_528_640,
-    12_054_240,
-    12_579_840,
-];
+// Relevant Year 1 is in the calendar year after this one; minute 0 is 30 days into it: rules 1.4 and 2.1.
+const CALENDAR_YEAR_BEFORE: u32 = 2018;
+
+const DAYS_BEFORE: u32 = 30;
+
+const MINUTES_A_DAY: u32 = 1440;
 
 // A year's first minute and the minute that it ends at, or why there is none.
 pub enum YearMinutes {
@@ -66,19 +44,47 @@ impl YearMinutes {
     }
 }
 
-// Whether a calendar year has a leap day: 4 divides it, and 100 does not, unless 400 does.
+// Whether a calendar year has a leap day: 4 divides it, and 100 does not, unless 400 does. Rule 2.1.
 pub fn is_leap(year: u32) -> bool
     ensures { λ r. ⌜ r ≡ isLeap year ⌝ }
 {
-    year % 400 == 0 || (year % 4 == 0 && year % 100 != 0)
+    if year % 400 == 0 {
+        return true;
+    }
+    if year % 100 == 0 {
+        return false;
+    }
+    year % 4 == 0
 }
 
-// The first minute of a year from 1 to 25.
+// The minutes of a year from 1 to 24: those of its calendar year, without the days before minute 0 in year 1.
+fn year_length(year: u8) -> u32
+    requires { ⌜ (1 ≤ year) × (year < lastYear) ⌝ }
+    ensures { λ r. ⌜ yearStart year + r ≡ yearStart (suc year) ⌝ }
+{
+    let days = if is_leap(CALENDAR_YEAR_BEFORE + year as u32) {
+        366
+    } else {
+        365
+    };
+    if year == FIRST_YEAR {
+        return (days - DAYS_BEFORE) * MINUTES_A_DAY;
+    }
+    days * MINUTES_A_DAY
+}
+
+// The first minute of a year from 1 to 25, found by passing year after year from year 1 on.
 fn year_start(year: u8) -> u32
     requires { ⌜ (1 ≤ year) × (year ≤ lastYear) ⌝ }
     ensures { λ r. ⌜ r ≡ yearStart year ⌝ }
 {
-    YEAR_STARTS[(year - 1) as usize]
+    let mut start: u32 = 0;
+    let mut passing = FIRST_YEAR;
+    while passing < year {
+        start += year_length(passing);
+        passing += 1;
+    }
+    start
 }
 
 // The first minute of a Relevant Year, and the minute that it ends at: where the next begins, or for year 25 at the
@@ -99,8 +105,6 @@ pub fn year_minutes(year: u8, regime_end: u32) -> YearMinutes
             end: regime_end,
         };
     }
-    YearMinutes::Span {
-        first,
-        end: year_start(year + 1),
-    }
+    let end = first + year_length(year);
+    YearMinutes::Span { first, end }
 }

@@ -4,9 +4,16 @@ use super::Refusal;
 
 pub const MINUTES_OF_A_DAY: i128 = 1_440;
 
-/// The leap-year rule.
+/// The leap-year rule (rule 2.1).
 pub fn is_leap(year: i128) -> bool {
     year % 4 == 0 && (year % 100 != 0 || year % 400 == 0)
+}
+
+/// How many years before this one have a leap day: each fourth, but of the
+/// centuries only each fourth.
+fn leap_years_before(year: i128) -> i128 {
+    let last = year - 1;
+    last / 4 - last / 100 + last / 400
 }
 
 pub fn days_of_month(year: i128, month: i128) -> i128 {
@@ -36,7 +43,7 @@ pub fn days_since_1900(year: i128, month: i128, day: i128) -> Option<i128> {
     if !known {
         return None;
     }
-    let years: i128 = (1900..year).map(days_of_year).sum();
+    let years = 365 * (year - 1900) + leap_years_before(year) - leap_years_before(1900);
     let months: i128 = (1..month).map(|m| days_of_month(year, m)).sum();
     Some(years + months + day - 1)
 }
@@ -92,18 +99,12 @@ fn first_minute(number: i128) -> i128 {
     }
 }
 
-/// The first minutes of the 25 years, worked out once.
-fn first_minutes() -> &'static [i128] {
-    static STARTS: std::sync::OnceLock<Vec<i128>> = std::sync::OnceLock::new();
-    STARTS.get_or_init(|| (1..=25).map(first_minute).collect())
-}
-
 /// A year's first minute and its end; year 25 ends at the regime end.
 pub fn year_minutes(number: u8, regime_end: u32) -> Result<(i128, i128), Refusal> {
-    let starts = first_minutes();
+    let year = number as i128;
     match number {
-        1..=24 => Ok((starts[number as usize - 1], starts[number as usize])),
-        25 => Ok((starts[24], regime_end as i128)),
+        1..=24 => Ok((first_minute(year), first_minute(year + 1))),
+        25 => Ok((first_minute(year), regime_end as i128)),
         _ => Err(9),
     }
 }
@@ -122,6 +123,17 @@ mod tests {
         assert_eq!(year_minutes(0, 0), Err(9));
         assert_eq!(year_minutes(26, 0), Err(9));
         assert_eq!(minute_of_date(2045, 1, 1), Some(13_632_480));
+    }
+
+    #[test]
+    fn a_century_has_a_leap_day_where_400_divides_it() {
+        assert!(!is_leap(1900) && is_leap(2000) && !is_leap(2100));
+        assert!(is_leap(2096) && !is_leap(2097) && is_leap(2104));
+        assert_eq!(days_since_1900(1901, 1, 1), Some(365));
+        for year in 1900..9999 {
+            let days = |year| days_since_1900(year, 1, 1).unwrap();
+            assert_eq!(days(year + 1) - days(year), days_of_year(year), "{year}");
+        }
     }
 
     #[test]
