@@ -336,6 +336,13 @@ static void cancel_end(unsigned fullness)
     short_field(39, 1, SPARE);
 }
 
+/* The longest walk over the years: each call but the first names the minute that the log has. */
+static void close_call(unsigned fullness)
+{
+    (void)fullness;
+    short_field(28, 4, LAST_REGIME_END);
+}
+
 static void lost(unsigned fullness)
 {
     (void)fullness;
@@ -481,6 +488,7 @@ static const struct bench_case CASES[] = {
     {"cancel-front", stand_to_cancel, cancel_front, growth_and_take},
     {"cancel-end", stand_to_cancel, cancel_end, growth_and_take},
     {"cancel-none", stand_entries, cancel_none, growth},
+    {"close", stand_entries, close_call, growth},
     {"lost", stand_entries, lost, growth},
     {"levels", stand_years, levels, growth},
     {"revenue", stand_years, revenue, growth},

@@ -90,7 +90,7 @@ static uint64_t add_log(uint64_t sum, const struct log *log)
         sum = add(sum, log->entries[i].end);
         sum = add(sum, log->entries[i].mw);
     }
-    return add(add_wide(sum, log->count), log->regime_end);
+    return add(add(add_wide(sum, log->count), log->regime_end), log->closed);
 }
 
 static uint64_t year_sum(const struct year *y)
@@ -200,6 +200,12 @@ static bool call_enter(struct value v)
 static bool call_cancel(struct value v)
 {
     answer_log(cancel(&the_log, get32(v.bytes)));
+    return true;
+}
+
+static bool call_close(struct value v)
+{
+    answer_log(close_log(&the_log, get32(v.bytes)));
     return true;
 }
 
@@ -466,6 +472,12 @@ static bool set_count(struct value v)
     return answer_set();
 }
 
+static bool set_closed(struct value v)
+{
+    the_log.closed = get32(v.bytes);
+    return answer_set();
+}
+
 static bool set_book(struct value v)
 {
     const uint8_t *at = v.bytes;
@@ -571,6 +583,7 @@ static bool show_log(struct value v)
     (void)v;
     begin(the_log.count);
     figure(the_log.regime_end);
+    figure(the_log.closed);
     show_entries(&the_log);
     return true;
 }
@@ -596,6 +609,7 @@ static bool show_year(struct value v)
     }
     figure(year->log.count);
     figure(year->log.regime_end);
+    figure(year->log.closed);
     show_entries(&year->log);
     return true;
 }
@@ -684,6 +698,7 @@ static const struct call CALLS[] = {
     [25] = {call_write_sheet, 4, false},
     [26] = {call_print_minute, 4, false},
     [27] = {call_print_outage, 10, false},
+    [28] = {call_close, 4, false},
     [32] = {set_slot, 12, false},
     [33] = {set_count, 12, false},
     [34] = {set_book, 62, false},
@@ -694,6 +709,7 @@ static const struct call CALLS[] = {
     [39] = {set_log, 1, false},
     [40] = {keep, 0, true},
     [41] = {forget, 0, false},
+    [42] = {set_closed, 4, false},
     [48] = {show_log, 0, false},
     [49] = {show_year, 1, false},
     [50] = {show_book, 0, false},

@@ -14,13 +14,17 @@ pub fn refusal_words(number: i128) -> &'static str {
         6 => "no entry has that start",
         7 => "stretch reversed, or a minute past the regime end",
         8 => "a book entry or regime end out of range, or book and log differ in regime end",
-        9 => "year number, index, rate, factor, line or amount out of range",
+        9 => {
+            "year number, index, rate, factor, line or amount out of range, or a closing back or \
+             at no year end"
+        }
         10 => "floor balance above cap balance",
         11 => "above 10^9, or a balance or what is settled above 10^10",
         12 => "day number out of range, period reversed, or n not 0 to 499",
         13 => "return or day sheet malformed",
         14 => "no room for the written return or day sheet",
         15 => "a piece of a day sheet that does not fit",
+        16 => "starts in closed time",
         _ => "no such refusal",
     }
 }
@@ -33,11 +37,20 @@ fn entries(count: i128) -> String {
     }
 }
 
-/// A log's count, regime end and every slot that is not zero.
+fn closed_words(closed: i128) -> String {
+    if closed == 0 {
+        "all open".to_string()
+    } else {
+        format!("closed up to {}", time_words(closed))
+    }
+}
+
+/// A log's count, regime end, closed minute and every slot that is not zero.
 fn log_words(numbers: &[i128]) -> Option<String> {
-    let (count, regime_end) = (numbers.first()?, numbers.get(1)?);
-    let mut words = format!("{}, regime end {}", entries(*count), time_words(*regime_end));
-    for (slot, outage) in numbers[2..].chunks(3).enumerate() {
+    let [count, regime_end, closed] = numbers.get(..3)? else { return None };
+    let (end, closed) = (time_words(*regime_end), closed_words(*closed));
+    let mut words = format!("{}, regime end {end}, {closed}", entries(*count));
+    for (slot, outage) in numbers[3..].chunks(3).enumerate() {
         if let [start, end, mw] = outage {
             if [*start, *end, *mw] != [0, 0, 0] {
                 let (start, end) = (time_words(*start), time_words(*end));
@@ -86,7 +99,7 @@ fn book_words(numbers: &[i128]) -> Option<String> {
 fn figure_words(call: &Call, figures: &[i128]) -> Option<String> {
     let first = figures.first().copied();
     Some(match call {
-        Call::Empty { .. } | Call::Enter { .. } | Call::Cancel { .. } => {
+        Call::Empty { .. } | Call::Enter { .. } | Call::Cancel { .. } | Call::Close { .. } => {
             format!("accepted, {}", entries(first?))
         }
         Call::Lost { .. } | Call::Availability { .. } => format!("{} MW-minutes", first?),
@@ -195,5 +208,22 @@ mod tests {
         assert_eq!(words("read-sheet-kept 0", "15 26 0 99"), misfit);
         assert_eq!(words("show-sheet 4", "0 2 20 21 253 252"), "2 bytes: 1415");
         assert_eq!(words("print-minute 0", "0 16 99"), "text of 16 bytes, sum 99");
+    }
+
+    #[test]
+    fn closed_logs_in_words() {
+        assert_eq!(words("close 482400", "0 2 99"), "accepted, 2 entries");
+        assert_eq!(words("set-closed 7", "0"), "done");
+        assert_eq!(words("cancel 5", "16 2 99"), "refused 16: starts in closed time");
+        assert!(words("close 7", "9 2 99").ends_with("a closing back or at no year end"));
+        let slots = " 5 6 7 0 0 0";
+        assert_eq!(
+            words("show-log", &format!("1 13632480 482400{slots}")),
+            "1 entry, regime end 2045-01-01 00:00, closed up to 2020-01-01 00:00; \
+             slot 0: 2019-01-31 00:05 to 2019-01-31 00:06, 7 MW",
+        );
+        let open = words("show-log", &format!("0 13632480 0{}", " 0".repeat(1_200)));
+        assert_eq!(open, "0 entries, regime end 2045-01-01 00:00, all open");
+        assert_eq!(words("show-log", "0 13632480"), "0 13632480");
     }
 }

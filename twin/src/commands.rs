@@ -17,10 +17,11 @@ use crate::words::{call_words, parse_line, word};
 /// Where the script of a difference is written.
 const DIFFERENCE: &str = "target/twin-difference.script";
 /// The last tag of a call of the library; those above it set and show.
-const LAST_CALL: u8 = 27;
-/// The tags of calls on returns; those from there to the last are on day sheets
-/// and dates.
+const LAST_CALL: u8 = 28;
+/// The tags of calls on returns.
 const RETURNS: RangeInclusive<u8> = 17..=22;
+/// The tags of calls on day sheets and dates.
+const SHEETS: RangeInclusive<u8> = 23..=27;
 /// How many wrong figures are shown one by one.
 const SHOWN_DIFFERENCES: usize = 10;
 
@@ -61,19 +62,25 @@ enum Part {
     Malformed { bytes: Vec<u8>, answer: String },
 }
 
-/// Makes blocks until there are enough calls and returns, and writes them.
-/// A part is handed over before it is written, so that its answers are read
-/// while it is.
+/// Makes blocks until there are enough calls, a tenth of them on returns and a
+/// tenth on day sheets and dates, and writes them. A part is handed over before
+/// it is written, so that its answers are read while it is.
 fn write_script(seed: u64, least: u64, parts: mpsc::Sender<Part>, mut stdin: ChildStdin) {
     let mut generator = Generator::new(seed);
-    let (mut calls, mut returns, mut place) = (0, 0, 0);
-    while calls < least || returns * 15 < calls {
-        let block =
-            if returns * 15 < calls { generator.return_block() } else { generator.next_block() };
+    let (mut calls, mut returns, mut sheets, mut place) = (0, 0, 0, 0);
+    while calls < least || returns * 10 < calls || sheets * 10 < calls {
+        let block = if returns * 10 < calls {
+            generator.return_block()
+        } else if sheets * 10 < calls {
+            generator.sheet_block()
+        } else {
+            generator.next_block()
+        };
         let mut script = Vec::new();
         for (call, _) in &block.calls {
             calls += (call.tag() <= LAST_CALL) as u64;
             returns += RETURNS.contains(&call.tag()) as u64;
+            sheets += SHEETS.contains(&call.tag()) as u64;
             script.extend(call.encode());
         }
         place += script.len();
@@ -107,7 +114,7 @@ impl Tally {
         }
         self.calls += 1;
         self.returns += RETURNS.contains(&tag) as u64;
-        self.sheets += (tag > *RETURNS.end()) as u64;
+        self.sheets += SHEETS.contains(&tag) as u64;
         let number = answer.split(' ').next().and_then(|number| number.parse().ok()).unwrap_or(0);
         *self.numbers.entry(tag).or_default().entry(number).or_default() += 1;
     }

@@ -94,7 +94,7 @@ fn text_answer(answer: Result<String, Refusal>) -> String {
 }
 
 fn log_numbers(log: &Log) -> Vec<i128> {
-    let mut numbers = vec![log.count as i128, log.regime_end as i128];
+    let mut numbers = vec![log.count as i128, log.regime_end as i128, log.closed as i128];
     for slot in &log.slots {
         numbers.extend([slot.start as i128, slot.end as i128, slot.mw as i128]);
     }
@@ -193,6 +193,10 @@ impl Desk {
                 let number = number_of(self.log.cancel(*start));
                 self.log_answer(number)
             }
+            Call::Close { minute } => {
+                let number = number_of(self.log.close(*minute));
+                self.log_answer(number)
+            }
             Call::Lost { a, b } => figures(self.log.lost(*a, *b).map(|lost| [lost])),
             Call::Minutes { year, regime_end } => {
                 figures(year_minutes(*year, *regime_end).map(|(first, end)| [first, end]))
@@ -281,6 +285,7 @@ impl Desk {
                 self.kept.extend(&bytes[..more]);
             }
             Call::Forget => self.kept.clear(),
+            Call::SetClosed { minute } => self.log.closed = *minute,
             _ => unreachable!("not a call that sets something"),
         }
     }
@@ -332,7 +337,7 @@ mod tests {
         );
         assert_eq!(answers(&script), expected);
         let length = script.len();
-        script.extend([28, 0, 0, 48, 0, 0]);
+        script.extend([29, 0, 0, 48, 0, 0]);
         assert_eq!(answers(&script), format!("{expected}malformed {length}\n"));
     }
 
@@ -353,6 +358,24 @@ mod tests {
         let answer = desk.carry_out(&Call::Empty { regime_end: 1 });
         assert_eq!(answer, format!("8 0 {}", log_sum(&Log::fresh())));
         assert_eq!(desk.log, Log::fresh());
+    }
+
+    #[test]
+    fn a_log_is_closed_set_and_shown() {
+        let mut desk = Desk::new();
+        let mut log = Log::fresh();
+        let refused = desk.carry_out(&Call::Close { minute: 482_401 });
+        assert_eq!(refused, format!("9 0 {}", log_sum(&log)));
+        log.closed = 482_400;
+        let accepted = desk.carry_out(&Call::Close { minute: 482_400 });
+        assert_eq!(accepted, format!("0 0 {}", log_sum(&log)));
+        assert!(desk.carry_out(&Call::ShowLog).starts_with("0 13632480 482400 0 0 0 "));
+        assert_eq!(desk.carry_out(&Call::SetClosed { minute: u32::MAX }), "0");
+        assert_eq!(desk.log.closed, u32::MAX);
+        desk.carry_out(&Call::YearLog { k: 4 });
+        assert!(desk.carry_out(&Call::ShowYear { k: 4 }).contains(" 13632480 4294967295 "));
+        desk.carry_out(&Call::ReadSheet { regime_end: 13_000_000, bytes: vec![] });
+        assert!(desk.carry_out(&Call::ShowLog).starts_with("0 13000000 0 0 0 0 "));
     }
 
     #[test]

@@ -2,6 +2,7 @@
 
 mod anything;
 mod assessments;
+mod closings;
 mod logs;
 mod random;
 mod records;
@@ -41,7 +42,7 @@ impl Generator {
     }
 
     pub fn next_block(&mut self) -> Block {
-        match self.random.below(27) {
+        match self.random.below(30) {
             0..=3 => self.block("log", Generator::log_work),
             4 | 5 => self.block("full log", Generator::full_log_work),
             6 | 7 => self.block("broken log", Generator::broken_log_work),
@@ -52,13 +53,18 @@ impl Generator {
             17 | 18 => self.block("period", Generator::period_work),
             19 => self.block("settlement", Generator::settlement_work),
             20..=22 => self.return_block(),
-            23..=25 => self.block("day sheets", Generator::sheet_work),
+            23..=25 => self.sheet_block(),
+            26..=28 => self.block("closed years", Generator::closed_work),
             _ => self.block("anything", Generator::any_work),
         }
     }
 
     pub fn return_block(&mut self) -> Block {
         self.block("returns", Generator::return_work)
+    }
+
+    pub fn sheet_block(&mut self) -> Block {
+        self.block("day sheets", Generator::sheet_work)
     }
 
     fn block(&mut self, name: &'static str, work: fn(&mut Generator)) -> Block {
@@ -101,7 +107,7 @@ impl Generator {
         let random = &mut self.random;
         let k_tags = [8, 9, 21, 37, 38, 39, 49];
         let mut field = match random.below(10) {
-            0 => vec![random.pick(&[0, 28, 31, 42, 47, 53, 255]), 0, 0],
+            0 => vec![random.pick(&[0, 29, 31, 43, 47, 53, 255]), 0, 0],
             1 => vec![random.pick(&k_tags), 0, 1, random.pick(&[5, 255])],
             2 => vec![random.pick(&[18, 51]), 0, 3, 5, 0, 0],
             3 => vec![random.pick(&[17, 19, 23]), 0, 0],
@@ -150,6 +156,7 @@ impl Generator {
 #[cfg(test)]
 mod tests {
     use super::*;
+    use crate::model::log::{Log, Slot};
     use crate::script::{next_field, Field};
     use std::collections::BTreeMap;
 
@@ -184,6 +191,34 @@ mod tests {
         assert!(short_stretches > 20);
     }
 
+    /// The entries that start before a minute, of a log that keeps the rules.
+    fn old_entries(log: &Log, closed: u32) -> Vec<Slot> {
+        log.entries().iter().filter(|entry| entry.start < closed).copied().collect()
+    }
+
+    #[test]
+    fn what_is_closed_stays() {
+        let mut generator = Generator::new(9);
+        let (mut accepted, mut closed_before) = (0, 0);
+        for _ in 0..300 {
+            let mut desk = Desk::new();
+            for (call, answer) in generator.next_block().calls {
+                let log = desk.log.clone();
+                desk.carry_out(&call);
+                if ![2, 3, 28].contains(&call.tag()) || !log.keeps_rules() {
+                    continue;
+                }
+                assert!(desk.log.keeps_rules() && desk.log.closed >= log.closed);
+                let (before, after) =
+                    (old_entries(&log, log.closed), old_entries(&desk.log, log.closed));
+                assert_eq!(before, after, "{call:?}");
+                accepted += (answer.starts_with("0 ") && log.closed > 0) as u64;
+                closed_before += !before.is_empty() as u64;
+            }
+        }
+        assert!(accepted > 100 && closed_before > 100);
+    }
+
     #[test]
     fn the_same_seed_makes_the_same_script() {
         let calls = |seed| {
@@ -205,13 +240,13 @@ mod tests {
     }
 
     /// Every call is accepted often, and refused often with every number that
-    /// it can give (READINGS, the table of checks).
+    /// it can give (rule 12.4).
     #[test]
     fn every_refusal_is_frequent() {
-        let expected: [(u8, &[&str]); 26] = [
+        let expected: [(u8, &[&str]); 27] = [
             (1, &["0", "8"]),
-            (2, &["0", "1", "2", "3", "4", "5"]),
-            (3, &["0", "1", "6"]),
+            (2, &["0", "1", "2", "3", "16", "4", "5"]),
+            (3, &["0", "1", "16", "6"]),
             (4, &["0", "1", "7"]),
             (5, &["0", "9"]),
             (6, &["0", "8", "1", "9"]),
@@ -235,10 +270,11 @@ mod tests {
             (25, &["0", "1", "14"]),
             (26, &["0", "7"]),
             (27, &["0", "7"]),
+            (28, &["0", "1", "9"]),
         ];
         let mut seen: BTreeMap<(u8, String), u64> = BTreeMap::new();
         let mut generator = Generator::new(1);
-        for _ in 0..600 {
+        for _ in 0..700 {
             for (call, answer) in generator.next_block().calls {
                 let number = answer.split(' ').next().unwrap().to_string();
                 *seen.entry((call.tag(), number)).or_default() += 1;

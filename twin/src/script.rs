@@ -71,6 +71,7 @@ pub enum Call {
     WriteSheet { room: u32 },
     PrintMinute { minute: u32 },
     PrintOutage { outage: Slot },
+    Close { minute: u32 },
     SetSlot { slot: u16, outage: Slot },
     SetCount { count: u64, regime_end: u32 },
     SetBook { book: Book },
@@ -81,6 +82,7 @@ pub enum Call {
     TakeLog { k: u8 },
     Keep { bytes: Vec<u8> },
     Forget,
+    SetClosed { minute: u32 },
     ShowLog,
     ShowYear { k: u8 },
     ShowBook,
@@ -118,6 +120,7 @@ impl Call {
             Call::WriteSheet { .. } => 25,
             Call::PrintMinute { .. } => 26,
             Call::PrintOutage { .. } => 27,
+            Call::Close { .. } => 28,
             Call::SetSlot { .. } => 32,
             Call::SetCount { .. } => 33,
             Call::SetBook { .. } => 34,
@@ -128,6 +131,7 @@ impl Call {
             Call::TakeLog { .. } => 39,
             Call::Keep { .. } => 40,
             Call::Forget => 41,
+            Call::SetClosed { .. } => 42,
             Call::ShowLog => 48,
             Call::ShowYear { .. } => 49,
             Call::ShowBook => 50,
@@ -204,7 +208,9 @@ impl Call {
                 value.u32(*regime_end);
                 value.0.extend(bytes);
             }
-            Call::PrintMinute { minute } => value.u32(*minute),
+            Call::PrintMinute { minute } | Call::Close { minute } | Call::SetClosed { minute } => {
+                value.u32(*minute)
+            }
             Call::ShowSheet { room } => value.u16(*room),
             Call::SetSlot { slot, outage } => {
                 value.u16(*slot);
@@ -275,6 +281,7 @@ impl Call {
             25 => Call::WriteSheet { room: part.u32()? },
             26 => Call::PrintMinute { minute: part.u32()? },
             27 => Call::PrintOutage { outage: part.outage()? },
+            28 => Call::Close { minute: part.u32()? },
             32 => {
                 let slot = part.u16()?;
                 if slot as usize >= SLOTS {
@@ -298,6 +305,7 @@ impl Call {
             39 => Call::TakeLog { k: part.k()? },
             40 => Call::Keep { bytes: part.rest() },
             41 => Call::Forget,
+            42 => Call::SetClosed { minute: part.u32()? },
             48 => Call::ShowLog,
             49 => Call::ShowYear { k: part.k()? },
             50 => Call::ShowBook,
@@ -527,6 +535,10 @@ mod tests {
         assert_eq!(Call::decode(23, &[0; 3]), None);
         assert!(Call::decode(23, &[0; 4]).is_some());
         assert_eq!(Call::decode(24, &[0; 5]), None);
+        assert_eq!(Call::decode(28, &[0; 3]), None);
+        assert_eq!(Call::decode(28, &[0, 0, 1, 2]), Some(Call::Close { minute: 258 }));
+        assert_eq!(Call::decode(42, &[0; 5]), None);
+        assert_eq!(Call::decode(42, &[0, 0, 1, 2]), Some(Call::SetClosed { minute: 258 }));
         assert_eq!(Call::decode(32, &[1, 144, 0, 0, 0, 0, 0, 0, 0, 0, 0, 0]), None);
         assert!(Call::decode(32, &[1, 143, 0, 0, 0, 0, 0, 0, 0, 0, 0, 0]).is_some());
         assert_eq!(Call::decode(36, &[0, 64, 0, 0, 0, 0, 0, 0, 0, 0, 0, 0]), None);

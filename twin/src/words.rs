@@ -40,6 +40,7 @@ pub fn word(tag: u8) -> &'static str {
         25 => "write-sheet",
         26 => "print-minute",
         27 => "print-outage",
+        28 => "close",
         32 => "set-slot",
         33 => "set-count",
         34 => "set-book",
@@ -50,6 +51,7 @@ pub fn word(tag: u8) -> &'static str {
         39 => "take-log",
         40 => "keep",
         41 => "forget",
+        42 => "set-closed",
         48 => "show-log",
         49 => "show-year",
         50 => "show-book",
@@ -336,6 +338,7 @@ fn parse_call(words: &mut Words) -> Result<Call, String> {
         "write-sheet" => Call::WriteSheet { room: words.number("the room")? },
         "print-minute" => Call::PrintMinute { minute: words.minute("the minute")? },
         "print-outage" => Call::PrintOutage { outage: words.outage()? },
+        "close" => Call::Close { minute: words.minute("the minute")? },
         "set-slot" => {
             let slot = words.number("the slot")?;
             if slot as usize >= SLOTS {
@@ -391,6 +394,7 @@ fn parse_call(words: &mut Words) -> Result<Call, String> {
         "take-log" => Call::TakeLog { k: words.k()? },
         "keep" => Call::Keep { bytes: words.bytes()? },
         "forget" => Call::Forget,
+        "set-closed" => Call::SetClosed { minute: words.minute("the minute")? },
         "show-log" => Call::ShowLog,
         "show-year" => Call::ShowYear { k: words.k()? },
         "show-book" => Call::ShowBook,
@@ -448,7 +452,9 @@ pub fn call_words(call: &Call) -> String {
         Call::ReadSheet { regime_end, bytes } => {
             format!("{} {}", time(regime_end), hexadecimal(bytes))
         }
-        Call::PrintMinute { minute } => time(minute),
+        Call::PrintMinute { minute } | Call::Close { minute } | Call::SetClosed { minute } => {
+            time(minute)
+        }
         Call::ShowSheet { room } => room.to_string(),
         Call::SetSlot { slot, outage } => format!("{slot} {}", outage_words(outage)),
         Call::SetCount { count, regime_end } => format!("{count} {}", time(regime_end)),
@@ -500,6 +506,8 @@ mod tests {
             parse_line("gap 2023-01-01 2023-12-31 2024-04-01 2025-03-31"),
             parse_line("gap 44927 45291 45383 45747"),
         );
+        assert_eq!(parse_line("close 2020-01-01 00:00"), Ok(vec![Call::Close { minute: 482_400 }]));
+        assert_eq!(parse_line("set-closed 7"), Ok(vec![Call::SetClosed { minute: 7 }]));
         assert_eq!(parse_line("# enter"), Ok(vec![]));
         assert_eq!(parse_line("fill 2 0 10 5 1").map(|calls| calls.len()), Ok(2));
         assert_eq!(parse_line("fill-lines 0 64 1 0 5").map(|calls| calls.len()), Ok(64));
@@ -528,6 +536,9 @@ mod tests {
             "enter 2019-02-29 23:30 5 3",
             "enter 2019-02-28 24:00 5 3",
             "cancel -1",
+            "close",
+            "close 2020-01-01",
+            "set-closed 4294967296",
             "growth 4294967296",
             "levels 5",
             "read 0 123",

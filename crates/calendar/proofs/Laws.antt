@@ -1,13 +1,13 @@
 -- Where the Relevant Years start. Assumes nothing.
 use mathlib.Core.Path.{_≡_, refl, ap, _∙_}
 use mathlib.Core.Logic.{_⊎_, inl, inr}
-use mathlib.Core.Bool.{Bool, true, false, cond}
+use mathlib.Core.Bool.{Bool, true, false, cond, _||_}
 use Prim.Native.Nat.{ℕ, zero, suc, _+_, _-_, _*_, _%_, _≤_, _<_}
 use native.Mathlib.Omega.{arith}
-use borrow.Author.Tests.{eqb-false}
+use borrow.Author.Tests.{eqb-false, eq-eqb, ne-eqb}
 use lib.Dec.{eqb}
-use Rattle.lists.proofs.Tests.{le-or-lt}
-use Rattle.calendar.specs.Years.{isLeap, daysIn, daysTo, yearStart, yearEnd, lastYear}
+use Rattle.lists.proofs.Tests.{le-or-lt, or-false}
+use Rattle.calendar.specs.Years.{isLeap, daysIn, daysTo, yearStart, yearEnd, lastYear, oneEndsAt, isYearEnd}
 
 -- a century is a leap year where 400 divides it, and not else
 pub leap-2000 : isLeap 2000 ≡ true
@@ -103,3 +103,40 @@ module _ (regimeEnd year : ℕ) (first : 12579840 ≤ regimeEnd) (l : 1 ≤ year
 
   pub year-within : (yearStart year ≤ yearEnd year regimeEnd) × (yearEnd year regimeEnd ≤ regimeEnd)
   year-within = by-last (eqb year lastYear) refl
+
+-- ---- year ends
+-- a year before the last ends where the next starts
+pub ends-next : (year regimeEnd : ℕ) → year < 25 → yearEnd year regimeEnd ≡ yearStart (suc year)
+ends-next year regimeEnd h = ap (λ (b : Bool). cond b regimeEnd (yearStart (suc year))) (ne-eqb year lastYear (λ e. omega arith))
+
+module _ (regimeEnd minute : ℕ) where
+  -- the end of one of the first n years
+  pub one-ends : (n year : ℕ) → 1 ≤ year → year ≤ n → minute ≡ yearEnd year regimeEnd → oneEndsAt regimeEnd minute n ≡ true
+  one-ends zero year l m e = absurd (omega arith)
+  one-ends (suc n) year l m e = by (le-or-lt (suc n) year) (λ h. one-ends n year l h e)
+    where
+      either : (b : Bool) {c : Bool} → c ≡ true → (b || c) ≡ true
+      either true h = refl
+      either false h = h
+
+      by : (suc n ≤ year) ⊎ (year < suc n) → (year ≤ n → oneEndsAt regimeEnd minute n ≡ true) → (eqb minute (yearEnd (suc n) regimeEnd) || oneEndsAt regimeEnd minute n) ≡ true
+      by (inl h) earlier =
+          let is : year ≡ suc n = omega arith in
+          rw (eq-eqb minute (yearEnd (suc n) regimeEnd) (e ∙ ap (λ (y : ℕ). yearEnd y regimeEnd) is)) refl
+      by (inr h) earlier = either (eqb minute (yearEnd (suc n) regimeEnd)) (earlier (omega arith))
+
+  -- none of those before a year ends there, and it does not
+  pub none-ends : (year : ℕ) → 1 ≤ year → (minute ≡ yearEnd year regimeEnd → ⊥) → oneEndsAt regimeEnd minute (year - 1) ≡ false → oneEndsAt regimeEnd minute year ≡ false
+  none-ends zero l h e = absurd (omega arith)
+  none-ends (suc n) l h e =
+      let p : suc n - 1 ≡ n = omega arith in
+      rw (ne-eqb minute (yearEnd (suc n) regimeEnd) h) (rw p at e)
+
+  pub year-ends : (year : ℕ) → 1 ≤ year → year ≤ 25 → minute ≡ yearEnd year regimeEnd → isYearEnd regimeEnd minute ≡ true
+  unfolding isYearEnd
+  year-ends year l m e = one-ends 25 year l m e
+
+  -- where none of the first 24 years ends, the regime end decides
+  pub last-ends : oneEndsAt regimeEnd minute 24 ≡ false → isYearEnd regimeEnd minute ≡ eqb minute regimeEnd
+  unfolding isYearEnd
+  last-ends e = ap (λ (b : Bool). eqb minute regimeEnd || b) e ∙ or-false (eqb minute regimeEnd)

@@ -1,5 +1,5 @@
 -- The minutes of a Relevant Year, by the calendar: rules 2.1 and 2.2.
-use mathlib.Core.Bool.{Bool, cond, not, _&&_, _||_}
+use mathlib.Core.Bool.{Bool, false, cond, not, _&&_, _||_}
 use mathlib.Core.List.{[], _∷_}
 use mathlib.Core.Path.{_≡_}
 use Prim.Native.Nat.{ℕ, zero, suc, _+_, _-_, _*_, _%_}
@@ -34,6 +34,15 @@ lastYear = 25
 -- rule 2.2: the last year ends at the regime end, another where the next starts
 abbrev pub yearEnd : ℕ → ℕ → ℕ
 yearEnd year regimeEnd = cond (eqb year lastYear) regimeEnd (yearStart (suc year))
+
+-- rule 2.2: one of the first n years ends at a minute
+abbrev pub oneEndsAt : ℕ → ℕ → ℕ → Bool
+oneEndsAt regimeEnd minute zero = false
+oneEndsAt regimeEnd minute (suc n) = eqb minute (yearEnd (suc n) regimeEnd) || oneEndsAt regimeEnd minute n
+
+-- rule 2.2: a minute is a year end
+unfoldable pub isYearEnd : ℕ → ℕ → Bool
+isYearEnd regimeEnd minute = oneEndsAt regimeEnd minute lastYear
 
 -- ---- a year's first minute and its end
 abbrev pub goodYearNumber : ℕ → Bool

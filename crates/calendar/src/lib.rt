@@ -1,4 +1,7 @@
 // The Relevant Years of the regime: rules 2.1 and 2.2.
+mod ends;
+
+pub use ends::is_year_end;
 use refusals::Refusal;
 ghost use mathlib.Core.Path.{_≡_};
 ghost use Prim.Native.Nat.{suc, _+_, _<_, _≤_};
@@ -73,6 +76,14 @@ fn year_length(year: u8) -> u32
     days * MINUTES_A_DAY
 }
 
+// Where the year after one from 1 to 24 starts, from where that one does.
+pub(crate) fn next_start(start: u32, year: u8) -> u32
+    requires { ⌜ (1 ≤ year) × (year < lastYear) × (start ≡ yearStart year) ⌝ }
+    ensures { λ r. ⌜ r ≡ yearStart (suc year) ⌝ }
+{
+    start + year_length(year)
+}
+
 // The first minute of a year from 1 to 25, found by passing year after year from year 1 on.
 fn year_start(year: u8) -> u32
     requires { ⌜ (1 ≤ year) × (year ≤ lastYear) ⌝ }
@@ -81,7 +92,7 @@ fn year_start(year: u8) -> u32
     let mut start: u32 = 0;
     let mut passing = FIRST_YEAR;
     while passing < year {
-        start += year_length(passing);
+        start = next_start(start, passing);
         passing += 1;
     }
     start
@@ -105,6 +116,6 @@ pub fn year_minutes(year: u8, regime_end: u32) -> YearMinutes
             end: regime_end,
         };
     }
-    let end = first + year_length(year);
+    let end = next_start(first, year);
     YearMinutes::Span { first, end }
 }

@@ -9,16 +9,16 @@ use lib.IntN.{pos, natAbs, _-ℤ_}
 use lib.ListN.{length, drop}
 use Rattle.lists.proofs.Tests.{not-no}
 use Rattle.refusals.specs.declared.Refusal.{Refusal}
-use Rattle.refusals.specs.declared.Refusal.the-variants.{BrokenLog, BadSpan, BadPower, SharedMinute, FullLog, NoSuchStart, BadStretch, BadBook, BadYear, FloorAboveCap, TooLarge, BadPeriod, Malformed, NoRoom, BadPiece}
+use Rattle.refusals.specs.declared.Refusal.the-variants.{BrokenLog, BadSpan, BadPower, SharedMinute, FullLog, NoSuchStart, BadStretch, BadBook, BadYear, FloorAboveCap, TooLarge, BadPeriod, Malformed, NoRoom, BadPiece, ClosedTime}
 use Rattle.refusals.specs.Refusals.{firstApplicable, refusalNumber, answerNumber, writtenNumber, lengthFigure}
 use Rattle.refusals.proofs.Laws.{same-refusal, all-clear, beside-refused}
 use Rattle.calendar.specs.Years.{yearStart, yearEnd, minutesRows, minutesNumber, firstFigure, endFigure}
 use Rattle.calendar.proofs.Only.{one-minutes}
 use Rattle.entries.specs.Row.{putInOrder, without}
 use Rattle.outage.specs.declared.Log.{Log}
-use Rattle.outage.specs.Log.{goodRegimeEnd, lastRegimeEnd, logEntries, logWith, logHolding, lostEnergy}
-use Rattle.outage.specs.Calls.{emptyLog, emptyRows, enterRows, cancelRows, lostRows, lostNumber, lostFigure}
-use Rattle.outage.proofs.Only.{one-empty, one-enter, one-cancel, one-lost}
+use Rattle.outage.specs.Log.{goodRegimeEnd, lastRegimeEnd, logEntries, logWith, closedAt, logHolding, lostEnergy}
+use Rattle.outage.specs.Calls.{emptyLog, emptyRows, enterRows, cancelRows, closeRows, lostRows, lostNumber, lostFigure}
+use Rattle.outage.proofs.Only.{one-empty, one-enter, one-cancel, one-close, one-lost}
 use Rattle.outage.proofs.Only as logs
 use Rattle.year.specs.Year.{freshYear}
 use Rattle.year.proofs.Only as years
@@ -53,7 +53,7 @@ use Rattle.return_printout.proofs.Only.{one-print}
 use Rattle.demands.specs.Demand1.{Demand1}
 use Rattle.demands.proofs.Sheets.{clear-whole}
 
-numbers : (why : Refusal) → (1 ≤ refusalNumber why) × (refusalNumber why ≤ 15)
+numbers : (why : Refusal) → (1 ≤ refusalNumber why) × (refusalNumber why ≤ 16)
 numbers BrokenLog = omega arith
 numbers BadSpan = omega arith
 numbers BadPower = omega arith
@@ -69,6 +69,7 @@ numbers BadPeriod = omega arith
 numbers Malformed = omega arith
 numbers NoRoom = omega arith
 numbers BadPiece = omega arith
+numbers ClosedTime = omega arith
 
 -- ---- a reading, by what it found
 refused-year : (x : Reading) (n : ℕ) → n ≡ cond (isRefused x) 13 0 → (n ≡ 0 → ⊥) → yearIn x ≡ freshYear
@@ -99,6 +100,7 @@ demand-1 = record {
   check-log = logs.one-check;
   enter = one-enter;
   cancel = one-cancel;
+  close = one-close;
   lost = one-lost;
   minutes = one-minutes;
   check-year = years.one-check;
@@ -124,6 +126,7 @@ demand-1 = record {
   print-outage = one-print-outage;
   enter-checks = λ l e r g v. g .0 ∙ rw v refl;
   cancel-checks = λ l key r g v. g .0 ∙ rw v refl;
+  close-checks = λ l m r g v. g .0 ∙ rw v refl;
   lost-checks = λ l a b r g v. g .0 ∙ rw v refl;
   availability-checks = λ book l number r g. (λ b. g .0 ∙ rw b refl, λ b v. g .0 ∙ rw (b, v) refl);
   target-checks = λ book l number r g. (λ b. g .0 ∙ rw b refl, λ b v. g .0 ∙ rw (b, v) refl);
@@ -139,6 +142,7 @@ demand-1 = record {
   fixed = same-refusal;
   enter-refused = λ l e r g n. beside-refused (enterRows l e) (answerNumber (r .answer)) (r .log) (logWith l (putInOrder e (logEntries l))) l (g .0) (g .1) n;
   cancel-refused = λ l key r g n. beside-refused (cancelRows l key) (answerNumber (r .answer)) (r .log) (logWith l (without key (logEntries l))) l (g .0) (g .1) n;
+  close-refused = λ l m r g n. beside-refused (closeRows l m) (answerNumber (r .answer)) (r .log) (closedAt l m) l (g .0) (g .1) n;
   empty-refused = λ regimeEnd r g n. beside-refused (emptyRows regimeEnd) (answerNumber (r .answer)) (r .log) (logHolding regimeEnd []) (logHolding lastRegimeEnd []) (g .0) (g .1) n;
   write-refused = λ y out r o g n. (
     beside-refused (writeRows y (length out)) (writtenNumber r) o (returnOf y ++ drop (length (returnOf y)) out) out (g .0) (g .2) n,

@@ -21,7 +21,7 @@ use Rattle.outage.specs.Log.{mostMw, validLog, logEntries, lostEnergy}
 use Rattle.outage.specs.Calls.{EmptyGives, lostFigure, LostGives}
 use Rattle.outage.proofs.LogHolding.{log-entries-length}
 use Rattle.entries.proofs.Minutes.{shares-says, shares-made}
-use Rattle.demands.specs.Log.{Turn, RanFrom, logAfter, acceptedNotCancelled}
+use Rattle.demands.specs.Log.{Turn, RanFrom, logAfter, acceptedNotCancelled, lastClosing}
 use Rattle.demands.specs.Demand3.{Demand3}
 use Rattle.demands.proofs.Lost.{by-minutes, parts-add, year-lost, year-most}
 use Rattle.demands.proofs.NotCancelled.{run-agrees}
@@ -43,7 +43,7 @@ year-bound log v number y m n r g =
 
 -- ---- the demand
 pub demand-3 : (regimeEnd : ℕ) (made : Logged) → EmptyGives regimeEnd made → (turns : List Turn) → RanFrom (made .log) turns
-    → Demand3 regimeEnd (logAfter (made .log) turns) (acceptedNotCancelled turns)
+    → Demand3 regimeEnd (logAfter (made .log) turns) (acceptedNotCancelled turns) (lastClosing turns)
 demand-3 regimeEnd made m turns g =
     let k = run-agrees regimeEnd made m turns g in
     let log = logAfter (made .log) turns in
@@ -53,6 +53,7 @@ demand-3 regimeEnd made m turns g =
       counted = sym (log-entries-length log (k .sound .rows) (k .sound .valid)) ∙ sym (ones (logEntries log)) ∙ k .same (λ (x : Entry). 1) ∙ ones es;
       slotted = k .sound .rows;
       end = k .end;
+      closed-up = k .closed;
       valid = k .sound .valid;
       order = in-order log (k .sound);
       apart = none-shared log (k .sound);
@@ -60,7 +61,7 @@ demand-3 regimeEnd made m turns g =
       free = free-zero log (k .sound);
       minutes = λ a b h l r q.
           by-minutes log (k .sound .valid) a b h l r q
-          ∙ ap MwMinutes (sum-same (lostIn (logEntries log)) (lostIn es) a (b - a) (λ t. k .same (λ (x : Entry). cond (covers t x) (x .mw) 0)));
+          ∙ ap MwMinutes (sum-same (lostIn (logEntries log)) (lostIn es) a (b - a) (λ t before. k .same (λ (x : Entry). cond (covers t x) (x .mw) 0)));
       cut = λ a mid b h l z first second whole p q r.
           let x : lostFigure first ≡ lostEnergy a mid (logEntries log) = ap lostFigure (by-minutes log (k .sound .valid) a mid h (omega arith) first p) in
           let y : lostFigure second ≡ lostEnergy mid b (logEntries log) = ap lostFigure (by-minutes log (k .sound .valid) mid b l z second q) in

@@ -8,5 +8,6 @@ pub mod Returns
 pub mod Demand1
 pub mod Demand2
 pub mod Demand3
+pub mod Closed
 pub mod Figures
 pub mod Sheets

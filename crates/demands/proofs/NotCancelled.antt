@@ -18,12 +18,12 @@ use Rattle.entries.specs.declared.Key.{Key}
 use Rattle.entries.specs.Row.{putInOrder, hasKey, without}
 use Rattle.entries.proofs.Keeping.{total-in-order}
 use Rattle.outage.specs.Log.{goodRegimeEnd, lastRegimeEnd, logEntries, logHolding}
-use Rattle.outage.specs.Calls.{EmptyGives, emptyLog, enterRows, enterLog, cancelRows, cancelLog}
-use Rattle.demands.specs.Log.{Call, entering, cancelling, Promised, Turn, logOf, RanFrom, logAfter, Event, put, takenOut, happened, cancelledBy, cancelledSince, notCancelled}
+use Rattle.outage.specs.Calls.{EmptyGives, emptyLog, enterRows, enterLog, cancelRows, cancelLog, closeRows, closeLog}
+use Rattle.demands.specs.Log.{Call, entering, cancelling, closing, Promised, Turn, logOf, RanFrom, logAfter, Event, put, takenOut, closedUp, happened, cancelledBy, cancelledSince, notCancelled, closedFrom}
 use Rattle.outage.proofs.LogHolding.{entries-with, log-holding-valid}
 use Rattle.demands.specs.Runs.{eventsOf}
 use Rattle.demands.proofs.Runs.{run-keeps}
-use Rattle.demands.proofs.Keeping.{Sound, entered-sound, cancelled-sound}
+use Rattle.demands.proofs.Keeping.{Sound, entered-sound, cancelled-sound, closed-sound}
 
 -- ---- one event more
 since-more : (e : Entry) (since : List Event) (event : Event) → cancelledSince e (since ++ event ∷ []) ≡ (cancelledSince e since || cancelledBy e event)
@@ -39,6 +39,7 @@ since-more e (x ∷ since) event = by (cancelledBy e x) (since-more e since even
 pub not-cancelled-put : (before : List Event) (e : Entry) → notCancelled (before ++ put e ∷ []) ≡ notCancelled before ++ e ∷ []
 not-cancelled-put [] e = refl
 not-cancelled-put (takenOut s ∷ before) e = not-cancelled-put before e
+not-cancelled-put (closedUp m ∷ before) e = not-cancelled-put before e
 not-cancelled-put (put x ∷ before) e = by (cancelledSince x before) (since-more x before (put e) ∙ or-false (cancelledSince x before)) (not-cancelled-put before e)
   where
     by : (b : Bool) → cancelledSince x (before ++ put e ∷ []) ≡ b → notCancelled (before ++ put e ∷ []) ≡ notCancelled before ++ e ∷ []
@@ -50,6 +51,7 @@ not-cancelled-put (put x ∷ before) e = by (cancelledSince x before) (since-mor
 pub not-cancelled-out : (before : List Event) (s : Key) → notCancelled (before ++ takenOut s ∷ []) ≡ without s (notCancelled before)
 not-cancelled-out [] s = refl
 not-cancelled-out (takenOut t ∷ before) s = not-cancelled-out before s
+not-cancelled-out (closedUp m ∷ before) s = not-cancelled-out before s
 not-cancelled-out (put x ∷ before) s = by (cancelledSince x before) (hasKey s x) refl (since-more x before (takenOut s)) (not-cancelled-out before s)
   where
     by : (b c : Bool) → hasKey s x ≡ c → cancelledSince x (before ++ takenOut s ∷ []) ≡ (b || c) → notCancelled (before ++ takenOut s ∷ []) ≡ without s (notCancelled before)
@@ -58,11 +60,35 @@ not-cancelled-out (put x ∷ before) s = by (cancelledSince x before) (hasKey s 
     by false true e d h = rw (d, h, e)
     by false false e d h = rw (d, h, e)
 
--- ---- a log and its events: whatever is added up over the entries comes out the same, and the regime end is the one it was made for
+-- a closing leaves them all standing
+pub not-cancelled-closed : (before : List Event) (m : ℕ) → notCancelled (before ++ closedUp m ∷ []) ≡ notCancelled before
+not-cancelled-closed [] m = refl
+not-cancelled-closed (takenOut t ∷ before) m = not-cancelled-closed before m
+not-cancelled-closed (closedUp n ∷ before) m = not-cancelled-closed before m
+not-cancelled-closed (put x ∷ before) m =
+    rw (since-more x before (closedUp m) ∙ or-false (cancelledSince x before), not-cancelled-closed before m) refl
+
+-- the last event decides the closed minute, if it is a closing
+abbrev closedNext : ℕ → Event → ℕ
+closedNext minute (put e) = minute
+closedNext minute (takenOut key) = minute
+closedNext minute (closedUp next) = next
+
+closed-more : (minute : ℕ) (before : List Event) (event : Event) → closedFrom minute (before ++ event ∷ []) ≡ closedNext (closedFrom minute before) event
+closed-more minute [] (put e) = refl
+closed-more minute [] (takenOut key) = refl
+closed-more minute [] (closedUp next) = refl
+closed-more minute (put e ∷ before) event = closed-more minute before event
+closed-more minute (takenOut key ∷ before) event = closed-more minute before event
+closed-more minute (closedUp next ∷ before) event = closed-more next before event
+
+-- ---- a log and its events: whatever is added up over the entries comes out the same, the regime end is the one it was made for, and
+-- the closed minute that of the last closing
 pub record Agrees (regimeEnd : ℕ) (log : Log) (before : List Event) : Type 0 where
   pub sound : Sound log
   pub same : (f : Entry → ℕ) → total f (logEntries log) ≡ total f (notCancelled before)
   pub end : log .«regime_end» ≡ regimeEnd
+  pub closed : log .closed ≡ closedFrom 0 before
 
 module _ (regimeEnd : ℕ) (log : Log) (before : List Event) (k : Agrees regimeEnd log before) where
   nothing-done : Agrees regimeEnd log (before ++ [])
@@ -83,6 +109,7 @@ module _ (regimeEnd : ℕ) (log : Log) (before : List Event) (k : Agrees regimeE
             ∙ ap (λ (x : ℕ). x + f e) (k .same f)
             ∙ sym (ap (total f) (not-cancelled-put before e) ∙ total-append f (notCancelled before) (e ∷ []) ∙ ap (λ (x : ℕ). total f (notCancelled before) + x) (add-zero (f e)));
         end = k .end;
+        closed = k .closed ∙ sym (closed-more 0 before (put e));
       }
   entered-by e (suc n) h = rw (not-done (firstApplicable (enterRows log e)) n h) nothing-done
 
@@ -97,8 +124,20 @@ module _ (regimeEnd : ℕ) (log : Log) (before : List Event) (k : Agrees regimeE
             ∙ k .same (λ (x : Entry). cond (not (hasKey s x)) (f x) 0)
             ∙ sym (ap (total f) (not-cancelled-out before s) ∙ total-keep f (λ (x : Entry). not (hasKey s x)) (notCancelled before));
         end = k .end;
+        closed = k .closed ∙ sym (closed-more 0 before (takenOut s));
       }
   cancelled-by s (suc n) h = rw (not-done (firstApplicable (cancelRows log s)) n h) nothing-done
+
+  closed-by : (m : ℕ) (n : ℕ) → firstApplicable (closeRows log m) ≡ n → Agrees regimeEnd (closeLog log m) (before ++ cond (eqb (firstApplicable (closeRows log m)) 0) (closedUp m ∷ []) [])
+  closed-by m zero h =
+      rw (eq-eqb (firstApplicable (closeRows log m)) 0 h)
+      record {
+        sound = closed-sound log (k .sound) m h;
+        same = λ f. k .same f ∙ sym (ap (total f) (not-cancelled-closed before m));
+        end = k .end;
+        closed = sym (closed-more 0 before (closedUp m));
+      }
+  closed-by m (suc n) h = rw (not-done (firstApplicable (closeRows log m)) n h) nothing-done
 
   -- a result that has the number and the log of a definition stands as the definition does
   as-given : (r : Logged) (n : ℕ) (next : Log) (events : List Event) → (answerNumber (r .answer) ≡ n) × (r .log ≡ next)
@@ -108,6 +147,7 @@ module _ (regimeEnd : ℕ) (log : Log) (before : List Event) (k : Agrees regimeE
   pub call-agrees : (call : Call) (r : Logged) → Promised log call r → Agrees regimeEnd (r .log) (before ++ happened (call, r))
   call-agrees (entering e) r g = as-given r (firstApplicable (enterRows log e)) (enterLog log e) (put e ∷ []) g (entered-by e (firstApplicable (enterRows log e)) refl)
   call-agrees (cancelling s) r g = as-given r (firstApplicable (cancelRows log s)) (cancelLog log s) (takenOut s ∷ []) g (cancelled-by s (firstApplicable (cancelRows log s)) refl)
+  call-agrees (closing m) r g = as-given r (firstApplicable (closeRows log m)) (closeLog log m) (closedUp m ∷ []) g (closed-by m (firstApplicable (closeRows log m)) refl)
 
 -- ---- where every log starts
 abbrev pub endMade : ℕ → ℕ
@@ -121,6 +161,7 @@ empty-agrees regimeEnd = by (goodRegimeEnd regimeEnd) refl
       sound = record { rows = refl; valid = log-holding-valid re [] g (omega arith) (record { good = refl; order = refl; shared = refl }) };
       same = λ f. refl;
       end = refl;
+      closed = refl;
     }
 
     by : (b : Bool) → goodRegimeEnd regimeEnd ≡ b → Agrees (endMade regimeEnd) (emptyLog regimeEnd) []

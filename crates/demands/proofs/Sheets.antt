@@ -21,9 +21,9 @@ use Rattle.entries.specs.Row.{goodSpan, goodPower, goodEntry, putInOrder}
 use Rattle.entries.proofs.Order.{follows, follows-valid, good-span, rules-say}
 use Rattle.outage.specs.declared.Log.{Log}
 use Rattle.outage.specs.declared.Logged.{Logged}
-use Rattle.outage.specs.Log.{slots, goodRegimeEnd, logEntries, validLog, logHolding}
+use Rattle.outage.specs.Log.{slots, goodRegimeEnd, logEntries, validLog, closedAt, logHolding}
 use Rattle.outage.specs.Calls.{enterRows, enterLog, EnterGives}
-use Rattle.outage.proofs.LogHolding.{valid-end, holds, log-holding-entries, log-holding-valid}
+use Rattle.outage.proofs.LogHolding.{valid-end, open-is, open-holds, log-holding-entries, log-holding-valid}
 use Rattle.outage.proofs.Only.{one-empty, one-enter}
 use Rattle.sheet_format.proofs.Ends.{endOf, end-last, follows-end, follows-more, none-shared}
 use Rattle.codec.specs.Message.{Reading, whole, refused}
@@ -42,7 +42,7 @@ use Rattle.sheet_reading.proofs.Only.{only-read-sheet}
 use Rattle.sheet_writing.specs.Written.{WriteSheetGives}
 use Rattle.demands.specs.Sheets.{FromSheet}
 use Rattle.demands.specs.Runs.{eventsOf}
-use Rattle.demands.specs.Log.{Call, entering, Turn, logOf, RanFrom, logAfter, Event, put, happened, notCancelled}
+use Rattle.demands.specs.Log.{Call, entering, Turn, logOf, RanFrom, logAfter, Event, put, happened, notCancelled, closedFrom}
 use Rattle.demands.specs.Demand3.{Demand3}
 use Rattle.demands.proofs.Demand3.{demand-3}
 
@@ -62,7 +62,7 @@ module _ (re : ℕ) (good : goodRegimeEnd re ≡ true) where
     taken =
         let v = log-holding-valid re held good (omega arith) (rules-say re held (sym (follows-valid re held) ∙ f)) in
         let n = none-shared re 0 held e f from in
-        rw (v, and-left (goodSpan re e) (goodPower e) g, and-right (goodSpan re e) (goodPower e) g, log-holding-entries re held, n, lt-leb slots (length held) room) refl
+        rw (v, and-left (goodSpan re e) (goodPower e) g, and-right (goodSpan re e) (goodPower e) g, le-ltb (e .start) 0 (omega arith), log-holding-entries re held, n, lt-leb slots (length held) room) refl
 
     entered : enterLog (logHolding re held) e ≡ logHolding re (held ++ (e ∷ []))
     entered =
@@ -143,7 +143,7 @@ module _ (re : ℕ) (bs : List ℕ) (b : Bytes bs) (t : Sheet) (g : SheetGives r
         calls = r .calls ∙ ap (map entering) (sym m);
         ran = rw made (r .ran);
         events = r .events ∙ ap (map put) (sym m);
-        gives = rw made (r .gives ∙ ap (λ (end : ℕ). logHolding end es) (sym (i .end)) ∙ sym (holds (t .log) (i .slotted) (i .valid)));
+        gives = rw made (r .gives ∙ ap (λ (end : ℕ). logHolding end es) (sym (i .end)) ∙ sym (open-holds (t .log) (i .slotted) (i .valid)) ∙ open-is (t .log) (i .all-open));
       }
 
 -- ---- and after any calls on it
@@ -161,7 +161,7 @@ events-more (turn ∷ a) b = ap (λ (es : List Event). happened turn ++ es) (eve
 
 -- demand 3 of a run from a log that was read: its entries are those that the pieces mean and those accepted since, without those cancelled
 pub demand-3-from-sheet : (re : ℕ) (bs : List ℕ) (log : Log) (s : FromSheet re bs log) (turns : List Turn) → RanFrom log turns
-    → Demand3 re (logAfter log turns) (notCancelled (map put (meant (s .pieces)) ++ eventsOf happened turns))
+    → Demand3 re (logAfter log turns) (notCancelled (map put (meant (s .pieces)) ++ eventsOf happened turns)) (closedFrom 0 (map put (meant (s .pieces)) ++ eventsOf happened turns))
 demand-3-from-sheet re bs log s turns r =
     let d = demand-3 re (s .made) (s .empty) (s .turns ++ turns) (ran-more (s .made .log) (s .turns) turns (s .ran) (rw (s .gives) r)) in
     let l : logAfter (s .made .log) (s .turns ++ turns) ≡ logAfter log turns = after-more (s .made .log) (s .turns) turns ∙ ap (λ (x : Log). logAfter x turns) (s .gives) in
@@ -184,12 +184,13 @@ module _ (log : Log) (slotted : length (log .entries) ≡ slots) (out o : List �
       let is : o ≡ sheetOf log ++ drop (length (sheetOf log)) out = w .2 ∙ ap (λ (b : Bool). cond b (sheetOf log ++ drop (length (sheetOf log)) out) out) yes in
       ap (take n) is ∙ take-at (sheetOf log) (drop (length (sheetOf log)) out) n (sym long)
 
-  -- it reads back as itself
-  pub sheet-reads-back : (t : Sheet) → SheetGives (log .«regime_end») (take n o) t → t ≡ record { log = log; answer = Done; place = 0 }
+  -- it reads back with all of it open, and where it is open as itself
+  pub sheet-reads-back : (t : Sheet) → SheetGives (log .«regime_end») (take n o) t → (t ≡ record { log = closedAt log 0; answer = Done; place = 0 }) × (log .closed ≡ 0 → t .log ≡ log)
   sheet-reads-back t g =
       let good = valid-end log valid in
-      let read : sheetReading (log .«regime_end») (take n o) ≡ whole log = ap (sheetReading (log .«regime_end»)) front ∙ written-read (log .«regime_end») good log slotted refl valid in
-      only-read-sheet (log .«regime_end») (take n o) t (record { log = log; answer = Done; place = 0 }) g (rw (good, read) (refl, refl, refl))
+      let read : sheetReading (log .«regime_end») (take n o) ≡ whole (closedAt log 0) = ap (sheetReading (log .«regime_end»)) front ∙ written-read (log .«regime_end») good log slotted refl valid in
+      let is : t ≡ record { log = closedAt log 0; answer = Done; place = 0 } = only-read-sheet (log .«regime_end») (take n o) t (record { log = closedAt log 0; answer = Done; place = 0 }) g (rw (good, read) (refl, refl, refl)) in
+      (is, λ h. ap (λ (x : Sheet). x .log) is ∙ open-is log h)
 
   pub sheet-not-longer : n ≤ longestSheet
   sheet-not-longer = omega (arith, long, sheet-most log slotted valid)

@@ -17,7 +17,7 @@ use Rattle.outage.specs.declared.Log.{Log}
 use Rattle.outage.specs.declared.Logged.{Logged}
 use Rattle.outage.specs.declared.losing.LostEnergy.{LostEnergy}
 use Rattle.outage.specs.Log.{lastRegimeEnd, goodRegimeEnd, validLog, logHolding}
-use Rattle.outage.specs.Calls.{emptyLog, EmptyGives, EnterGives, CancelGives, lostNumber, lostFigure, LostGives}
+use Rattle.outage.specs.Calls.{emptyLog, EmptyGives, EnterGives, CancelGives, CloseGives, lostNumber, lostFigure, LostGives}
 use Rattle.outage.specs.Calls as logs
 use Rattle.year.specs.declared.Year.{Year}
 use Rattle.year.specs.Year.{freshYear, goodYear}
@@ -65,6 +65,7 @@ pub record Demand1 : Type 0 where
   pub check-log : (log : Log) → One (logs.CheckLogGives log)
   pub enter : (log : Log) (e : Entry) → One (EnterGives log e)
   pub cancel : (log : Log) (key : Key) → One (CancelGives log key)
+  pub close : (log : Log) (minute : ℕ) → One (CloseGives log minute)
   pub lost : (log : Log) (a b : ℕ) → One (LostGives log a b)
   pub minutes : (number regimeEnd : ℕ) → One (MinutesGives number regimeEnd)
   pub check-year : (y : Year) → One (years.CheckYearGives y)
@@ -91,6 +92,7 @@ pub record Demand1 : Type 0 where
   -- ---- "It checks what it is handed": a broken log is 1, a bad book 8 before it, a year or amounts out of range 9
   pub enter-checks : (log : Log) (e : Entry) (r : Logged) → EnterGives log e r → validLog log ≡ false → answerNumber (r .answer) ≡ 1
   pub cancel-checks : (log : Log) (key : Key) (r : Logged) → CancelGives log key r → validLog log ≡ false → answerNumber (r .answer) ≡ 1
+  pub close-checks : (log : Log) (minute : ℕ) (r : Logged) → CloseGives log minute r → validLog log ≡ false → answerNumber (r .answer) ≡ 1
   pub lost-checks : (log : Log) (a b : ℕ) (r : LostEnergy) → LostGives log a b r → validLog log ≡ false → lostNumber r ≡ 1
   pub availability-checks : (book : Book) (log : Log) (number : ℕ) (r : Availability) → AvailabilityGives book log number r → BookThenLog book log (availabilityNumber r)
   pub target-checks : (book : Book) (log : Log) (number : ℕ) (r : Target) → TargetGives book log number r → BookThenLog book log (targetNumber r)
@@ -102,12 +104,13 @@ pub record Demand1 : Type 0 where
   pub write-checks : (y : Year) (out : List ℕ) (r : Written) (o : List ℕ) → WriteGives y out r o → validLog (y .log) ≡ false → writtenNumber r ≡ 1
   pub read-sheet-checks : (regimeEnd : ℕ) (bs : List ℕ) (r : Sheet) → SheetGives regimeEnd bs r → goodRegimeEnd regimeEnd ≡ false → (answerNumber (r .answer) ≡ 8) × (r .place ≡ 0)
   pub write-sheet-checks : (log : Log) (out : List ℕ) (r : Written) (o : List ℕ) → WriteSheetGives log out r o → validLog log ≡ false → writtenNumber r ≡ 1
-  -- ---- "A refused call has a fixed number": 1 to 15, each for one refusal
-  pub numbered : (why : Refusal) → (1 ≤ refusalNumber why) × (refusalNumber why ≤ 15)
+  -- ---- "A refused call has a fixed number": 1 to 16, each for one refusal
+  pub numbered : (why : Refusal) → (1 ≤ refusalNumber why) × (refusalNumber why ≤ 16)
   pub fixed : (why other : Refusal) → refusalNumber why ≡ refusalNumber other → why ≡ other
   -- ---- "gives back the log it got", to the last slot
   pub enter-refused : (log : Log) (e : Entry) (r : Logged) → EnterGives log e r → (answerNumber (r .answer) ≡ 0 → ⊥) → r .log ≡ log
   pub cancel-refused : (log : Log) (key : Key) (r : Logged) → CancelGives log key r → (answerNumber (r .answer) ≡ 0 → ⊥) → r .log ≡ log
+  pub close-refused : (log : Log) (minute : ℕ) (r : Logged) → CloseGives log minute r → (answerNumber (r .answer) ≡ 0 → ⊥) → r .log ≡ log
   -- where it was handed none, the empty log to 13,632,480
   pub empty-refused : (regimeEnd : ℕ) (r : Logged) → EmptyGives regimeEnd r → (answerNumber (r .answer) ≡ 0 → ⊥) → r .log ≡ logHolding lastRegimeEnd []
   -- a sheet that is refused gives the empty log for its regime end, or to 13,632,480 where that is refused

@@ -17,7 +17,7 @@ use Rattle.calendar.specs.declared.YearMinutes.{YearMinutes}
 use Rattle.calendar.specs.Years.{firstFigure, endFigure, MinutesGives}
 use Rattle.outage.specs.declared.Log.{Log}
 use Rattle.outage.specs.declared.losing.LostEnergy.{LostEnergy}
-use Rattle.outage.specs.Log.{slots, mostMw, goodRegimeEnd, lastRegimeEnd}
+use Rattle.outage.specs.Log.{slots, mostMw, goodRegimeEnd, lastRegimeEnd, closedAt}
 use Rattle.outage.specs.Calls.{lostFigure, LostGives}
 use Rattle.year.specs.declared.Year.{Year}
 use Rattle.year.specs.Year.{lineSlots}
@@ -175,13 +175,13 @@ pub record Demand2 : Type 0 where
       → RefusalPlace bs (t .place) × ((other : ℕ) → RefusalPlace bs other → other ≡ t .place)
   pub one-place : (bs : List ℕ) (place other : ℕ) → RefusalPlace bs place → RefusalPlace bs other → place ≡ other
   pub longer : (bs : List ℕ) (t : Return) → ReturnGives bs t → mostBytes < length bs → (answerNumber (t .answer) ≡ 13) × (t .place ≡ mostBytes)
-  -- ---- rule 15.6: day sheets. A log that is written reads back as itself, to its own regime end
+  -- ---- rule 15.6: day sheets. A log that is written reads back with all of it open, to its own regime end: as itself where it is open
   pub sheet-written-read : (log : Log) → length (log .entries) ≡ slots → (out o : List ℕ) (n : ℕ) → WriteSheetGives log out (Length n) o
-      → (t : Sheet) → SheetGives (log .«regime_end») (take n o) t → t ≡ record { log = log; answer = Done; place = 0 }
+      → (t : Sheet) → SheetGives (log .«regime_end») (take n o) t → (t ≡ record { log = closedAt log 0; answer = Done; place = 0 }) × (log .closed ≡ 0 → t .log ≡ log)
   -- a sheet that is read and written again gives its own bytes, where there is room, and nothing else changes
   pub sheet-read-written : (regimeEnd : ℕ) (bs : List ℕ) → Bytes bs → (t : Sheet) → SheetGives regimeEnd bs t → answerNumber (t .answer) ≡ 0
       → (out o : List ℕ) (r : Written) → WriteSheetGives (t .log) out r o → length bs ≤ length out → (r ≡ Length (length bs)) × (o ≡ bs ++ drop (length bs) out)
-  -- a sheet is accepted exactly where some valid log to the regime end has these bytes, and one log alone has them
+  -- a sheet is accepted exactly where some valid log to the regime end, all of it open, has these bytes, and one log alone has them
   pub is-sheet : (regimeEnd : ℕ) (bs : List ℕ) → Bytes bs → (t : Sheet) → SheetGives regimeEnd bs t
       → (answerNumber (t .answer) ≡ 0 → IsSheet regimeEnd bs) × (IsSheet regimeEnd bs → answerNumber (t .answer) ≡ 0)
   pub sheet-same-bytes : (regimeEnd : ℕ) (x y : Log) (bs : List ℕ) → IsSheetOf regimeEnd x bs → IsSheetOf regimeEnd y bs → x ≡ y

@@ -1,7 +1,7 @@
--- Demand 3, of one run. From an empty log, after any sequence of entries, cancellations and refused calls, the log holds exactly the
--- entries accepted and not since cancelled, in order of start, no two sharing a minute. Cut any stretch of the regime at any minute,
--- midnight or year end included: the lost energy of the two parts adds to that of the whole, and the whole equals the minute-by-minute
--- sum over those entries. So no year loses more than rated capacity times its minutes.
+-- Demand 3, of one run. From an empty log, after any sequence of entries, cancellations and closings, refused calls too, where closing
+-- alters no entry, the log holds exactly the entries accepted and not since cancelled, in order of start, no two sharing a minute. Cut
+-- any stretch of the regime at any minute, midnight or year end included: the lost energy of the two parts adds to that of the whole,
+-- and the whole equals the minute-by-minute sum over those entries. So no year loses more than rated capacity times its minutes.
 use mathlib.Core.Path.{_≡_}
 use mathlib.Core.Bool.{true, cond}
 use mathlib.Core.List.{List}
@@ -20,8 +20,9 @@ use Rattle.outage.specs.Log.{slots, mostMw, goodRegimeEnd, lastRegimeEnd, zeroE
 use Rattle.outage.specs.Calls.{lostFigure, LostGives}
 use Rattle.demands.specs.Log.{timesIn, slot}
 
--- of the regime end that the empty log was asked for, the log after the run, and the entries accepted and not since cancelled
-pub record Demand3 (regimeEnd : ℕ) (log : Log) (es : List Entry) : Type 0 where
+-- of the regime end that the empty log was asked for, the log after the run, the entries accepted and not since cancelled, and the
+-- minute of the last accepted closing
+pub record Demand3 (regimeEnd : ℕ) (log : Log) (es : List Entry) (closed : ℕ) : Type 0 where
   -- the log holds exactly these entries, each as many times
   pub exactly : (x : Entry) → timesIn x (logEntries log) ≡ timesIn x es
   -- its count is their number
@@ -30,6 +31,8 @@ pub record Demand3 (regimeEnd : ℕ) (log : Log) (es : List Entry) : Type 0 wher
   pub slotted : length (log .entries) ≡ slots
   -- its regime end is the one that it was made for, or 13,632,480 where that was refused
   pub end : log .«regime_end» ≡ cond (goodRegimeEnd regimeEnd) regimeEnd lastRegimeEnd
+  -- its closed minute is that of the last accepted closing, 0 where there is none
+  pub closed-up : log .closed ≡ closed
   -- it keeps every rule of the log
   pub valid : validLog log ≡ true
   -- "in order of start"

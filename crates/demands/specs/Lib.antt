@@ -4,5 +4,6 @@ pub mod Log
 pub mod Demand1
 pub mod Demand2
 pub mod Demand3
+pub mod Closed
 pub mod Sheets
 pub mod Figures

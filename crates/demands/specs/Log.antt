@@ -11,18 +11,20 @@ use Rattle.outage.specs.declared.Log.{Log}
 use Rattle.outage.specs.declared.Logged.{Logged}
 use Rattle.entries.specs.declared.Key.{Key}
 use Rattle.entries.specs.Row.{zeroEntry, sameEntry, hasKey}
-use Rattle.outage.specs.Calls.{EnterGives, CancelGives}
+use Rattle.outage.specs.Calls.{EnterGives, CancelGives, CloseGives}
 use Rattle.demands.specs.Runs.{Ran, after, eventsOf}
 
 -- ---- the calls, with any numbers at all
 pub data Call : Type 0 where
   entering : Entry → Call
   cancelling : Key → Call
+  closing : ℕ → Call
 
--- what a call promises of its result: the contracts of `enter` and `cancel`
+-- what a call promises of its result: the contracts of `enter`, `cancel` and `close`
 abbrev pub Promised : Log → Call → Logged → Type 0
 Promised log (entering e) r = EnterGives log e r
 Promised log (cancelling key) r = CancelGives log key r
+Promised log (closing minute) r = CloseGives log minute r
 
 -- a call and its result
 abbrev pub Turn : Type 0
@@ -42,11 +44,14 @@ logAfter log turns = after logOf log turns
 pub data Event : Type 0 where
   put : Entry → Event
   takenOut : Key → Event
+  closedUp : ℕ → Event
 
--- an accepted entering puts its entry in, an accepted cancelling takes a key out, a refused call does nothing
+-- an accepted entering puts its entry in, an accepted cancelling takes a key out, an accepted closing closes the log up to a
+-- minute, a refused call does nothing
 abbrev pub done : Call → List Event
 done (entering e) = put e ∷ []
 done (cancelling key) = takenOut key ∷ []
+done (closing minute) = closedUp minute ∷ []
 
 abbrev pub happened : Turn → List Event
 happened turn = cond (eqb (answerNumber (turn .1 .answer)) 0) (done (turn .0)) []
@@ -55,20 +60,33 @@ happened turn = cond (eqb (answerNumber (turn .1 .answer)) 0) (done (turn .0)) [
 abbrev pub cancelledBy : Entry → Event → Bool
 cancelledBy e (put x) = false
 cancelledBy e (takenOut key) = hasKey key e
+cancelledBy e (closedUp minute) = false
 
 abbrev pub cancelledSince : Entry → List Event → Bool
 cancelledSince e [] = false
 cancelledSince e (event ∷ events) = cancelledBy e event || cancelledSince e events
 
--- the entries put in and not since taken out
+-- the entries put in and not since taken out; a closing alters none
 abbrev pub notCancelled : List Event → List Entry
 notCancelled [] = []
 notCancelled (put e ∷ since) = cond (cancelledSince e since) (notCancelled since) (e ∷ notCancelled since)
 notCancelled (takenOut key ∷ since) = notCancelled since
+notCancelled (closedUp minute ∷ since) = notCancelled since
 
 -- demand 3: the entries accepted and not since cancelled
 abbrev pub acceptedNotCancelled : List Turn → List Entry
 acceptedNotCancelled turns = notCancelled (eventsOf happened turns)
+
+-- the minute that the last closing names, or the one before all of them
+abbrev pub closedFrom : ℕ → List Event → ℕ
+closedFrom minute [] = minute
+closedFrom minute (put e ∷ since) = closedFrom minute since
+closedFrom minute (takenOut key ∷ since) = closedFrom minute since
+closedFrom minute (closedUp next ∷ since) = closedFrom next since
+
+-- rules 4.8 and 4.9: from an empty log, the minute of the last closing that was accepted
+abbrev pub lastClosing : List Turn → ℕ
+lastClosing turns = closedFrom 0 (eventsOf happened turns)
 
 -- ---- what a log holds
 -- how many times an entry stands in a list

@@ -8,7 +8,7 @@ use native.Mathlib.Nat.{not-suc-le-zero}
 use borrow.Author.Tests.{eq-eqb, ne-eqb}
 use lib.ListN.{getD}
 use Rattle.refusals.specs.declared.Refusal.{Refusal}
-use Rattle.refusals.specs.declared.Refusal.the-variants.{BrokenLog, BadSpan, BadPower, SharedMinute, FullLog, NoSuchStart, BadStretch, BadBook, BadYear, FloorAboveCap, TooLarge, BadPeriod, Malformed, NoRoom, BadPiece}
+use Rattle.refusals.specs.declared.Refusal.the-variants.{BrokenLog, BadSpan, BadPower, SharedMinute, FullLog, NoSuchStart, BadStretch, BadBook, BadYear, FloorAboveCap, TooLarge, BadPeriod, Malformed, NoRoom, BadPiece, ClosedTime}
 use Rattle.refusals.specs.declared.Answer.{Answer}
 use Rattle.refusals.specs.declared.Answer.the-variants.{Done, Refused}
 use Rattle.refusals.specs.Refusals.{refusalNumber, answerNumber, firstApplicable, accepted, Rows}
@@ -32,6 +32,7 @@ byNumber =
     ∷ Malformed
     ∷ NoRoom
     ∷ BadPiece
+    ∷ ClosedTime
     ∷ []
 
 named : ℕ → Refusal
@@ -55,6 +56,7 @@ named-number BadPeriod = refl
 named-number Malformed = refl
 named-number NoRoom = refl
 named-number BadPiece = refl
+named-number ClosedTime = refl
 
 pub same-refusal : (r s : Refusal) → refusalNumber r ≡ refusalNumber s → r ≡ s
 same-refusal r s e = sym (named-number r) ∙ ap named e ∙ named-number s
@@ -75,6 +77,7 @@ never-zero BadPeriod = omega arith
 never-zero Malformed = omega arith
 never-zero NoRoom = omega arith
 never-zero BadPiece = omega arith
+never-zero ClosedTime = omega arith
 
 pub same-answer : (a b : Answer) → answerNumber a ≡ answerNumber b → a ≡ b
 same-answer Done Done e = refl
@@ -122,8 +125,8 @@ module _ {A : Type 0} (rows : Rows) (n : ℕ) (given asked other : A) (number : 
   pub beside-refused : (n ≡ 0 → ⊥) → given ≡ other
   beside-refused z = is ∙ ap (λ (b : Bool). cond b asked other) (ne-eqb (firstApplicable rows) 0 (λ e. z (number ∙ e)))
 
--- the numbers in the order in which they are looked for: each of 1 to 14 once
-pub turns : map refusalNumber inTurn ≡ 8 ∷ 1 ∷ 2 ∷ 3 ∷ 4 ∷ 5 ∷ 6 ∷ 7 ∷ 9 ∷ 12 ∷ 11 ∷ 10 ∷ 13 ∷ 14 ∷ []
+-- the numbers in the order in which they are looked for: each of 1 to 14 and 16 once
+pub turns : map refusalNumber inTurn ≡ 8 ∷ 1 ∷ 2 ∷ 3 ∷ 16 ∷ 4 ∷ 5 ∷ 6 ∷ 7 ∷ 9 ∷ 12 ∷ 11 ∷ 10 ∷ 13 ∷ 14 ∷ []
 turns = refl
 
 -- and on a day sheet

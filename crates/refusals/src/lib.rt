@@ -33,6 +33,8 @@ pub enum Refusal {
     NoRoom,
     // 15: a piece of a day sheet does not fit behind the last, crosses midnight, or starts before the last
     BadPiece,
+    // 16: the start lies before the closed minute
+    ClosedTime,
 }
 
 // The answer of a call that gives nothing else.
@@ -68,6 +70,7 @@ impl Refusal {
             Refusal::Malformed => 13,
             Refusal::NoRoom => 14,
             Refusal::BadPiece => 15,
+            Refusal::ClosedTime => 16,
         }
     }
 }

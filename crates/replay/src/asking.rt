@@ -51,7 +51,7 @@ fn logged(done: Logged) -> Log {
     say::two(
         answer.number(),
         log.count as u64,
-        sums::more_of_ends(sum, log.count, log.regime_end),
+        sums::more_of_ends(sum, log.count, log.regime_end, log.closed),
     );
     log
 }
@@ -69,6 +69,10 @@ pub(crate) fn cancel(s: &[u8], log: Log) -> Log {
         start: u32_at(s, 0),
     };
     logged(outage::cancel(log, key))
+}
+
+pub(crate) fn close(s: &[u8], log: Log) -> Log {
+    logged(outage::close(log, u32_at(s, 0)))
 }
 
 pub(crate) fn lost(s: &[u8], log: Log) -> bool {

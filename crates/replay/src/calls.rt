@@ -37,6 +37,15 @@ fn fitting(call: u64, fits: bool) -> u64 {
     if fits { call } else { 0 }
 }
 
+// The calls that set a part of the log, its closed minute where it is no other: the log after it.
+pub(crate) fn set_log(call: u64, s: &[u8], log: Log) -> Log {
+    match call {
+        32_00012 => setting::slot(s, log),
+        33_00012 => setting::count(s, log),
+        _ => setting::closed(s, log),
+    }
+}
+
 // The calls that set a year: the year after it, and whether it is one of them.
 pub(crate) fn set_year(
     call: u64,

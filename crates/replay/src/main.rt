@@ -11,6 +11,7 @@ mod sums;
 
 use calls::ask;
 use calls::listed;
+use calls::set_log;
 use calls::set_year;
 use fields::KEPT;
 use fields::ROOM;
@@ -71,8 +72,8 @@ fn carry_out(mut log: Log, mut book: Book, mut years: [Year; 5]) {
             3_00004 => log = asking::cancel(s, log),
             23_99999 => log = sheets::read(s),
             24_00004 => log = sheets::read_kept(s, &kept, bytes),
-            32_00012 => log = setting::slot(s, log),
-            33_00012 => log = setting::count(s, log),
+            28_00004 => log = asking::close(s, log),
+            32_00012 | 33_00012 | 42_00004 => log = set_log(call, s, log),
             34_00062 => book = setting::book(s),
             39_00001 => log = setting::log_from(years[k]),
             40_99999 => bytes = keep(&mut kept, bytes, s),

@@ -28,6 +28,13 @@ pub(crate) fn count(s: &[u8], mut log: Log) -> Log {
     log
 }
 
+// The log's closed minute.
+pub(crate) fn closed(s: &[u8], mut log: Log) -> Log {
+    log.closed = u32_at(s, 0);
+    say::set();
+    log
+}
+
 // The book.
 pub(crate) fn book(s: &[u8]) -> Book {
     say::set();

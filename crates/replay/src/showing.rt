@@ -26,6 +26,7 @@ fn entries(log: Log) {
 pub(crate) fn log(log: Log) -> bool {
     io::print_decimal(STDOUT_FILENO, log.count as u64);
     say::figure(log.regime_end as u64);
+    say::figure(log.closed as u64);
     entries(log);
     say::end()
 }
@@ -72,6 +73,7 @@ pub(crate) fn year(y: Year) -> bool {
     lines(rows);
     say::figure(own.count as u64);
     say::figure(own.regime_end as u64);
+    say::figure(own.closed as u64);
     entries(own);
     say::end()
 }

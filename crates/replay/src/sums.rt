@@ -36,9 +36,9 @@ fn more_of_line(sum: u64, l: Line) -> u64 {
     )
 }
 
-// A log's count and regime end more, after its slots.
-pub(crate) fn more_of_ends(sum: u64, count: usize, regime_end: u32) -> u64 {
-    more(more_wide(sum, count as u64), regime_end)
+// A log's count, regime end and closed minute more, after its slots.
+pub(crate) fn more_of_ends(sum: u64, count: usize, regime_end: u32, closed: u32) -> u64 {
+    more(more(more_wide(sum, count as u64), regime_end), closed)
 }
 
 // The log, after what is summed already.
@@ -50,7 +50,7 @@ pub(crate) fn more_of_log(sum: u64, log: Log) -> u64 {
         next = more_of_entry(next, e);
         i += 1;
     }
-    more_of_ends(next, log.count, log.regime_end)
+    more_of_ends(next, log.count, log.regime_end, log.closed)
 }
 
 fn more_of_lines(sum: u64, lines: [Line; Year::LINES]) -> u64 {

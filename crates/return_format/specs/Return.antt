@@ -82,9 +82,9 @@ abbrev pub refusedAt : ℕ → Return
 refusedAt place = record { answer = Refused Malformed; place = place; year = freshYear }
 
 -- ---- writing
--- rule 12.1, 9: each outage starts in the year, and the log runs to the return's regime end
+-- rules 10.3 and 12.1, 9: the log runs to the return's regime end, all of it is open, and each outage starts in the year
 abbrev pub logFits : Log → ℕ → Bool
-logFits log number = eqb (log .«regime_end») lastRegimeEnd && all (startsIn number) (logEntries log)
+logFits log number = eqb (log .«regime_end») lastRegimeEnd && (eqb (log .closed) 0 && all (startsIn number) (logEntries log))
 
 -- and all of the year but its log is in range
 abbrev pub writable : Year → Bool

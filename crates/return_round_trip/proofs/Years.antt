@@ -16,7 +16,7 @@ use Rattle.entries.specs.declared.Entry.{Entry}
 use Rattle.outage.specs.Log.{slots, lastRegimeEnd, goodEntry, validEntries, rowOf, validLog, logEntries, logHolding}
 use Rattle.entries.proofs.Order.{KeepsRules, rules-say, rules-made, follows, follows-valid}
 use Rattle.entries.proofs.Rows.{Valid, valid-says}
-use Rattle.outage.proofs.LogHolding.{log-entries-length, holds, log-holding-entries, log-holding-valid}
+use Rattle.outage.proofs.LogHolding.{log-entries-length, open-is, open-holds, log-holding-entries, log-holding-valid}
 use Rattle.year.specs.declared.Line.{Line}
 use Rattle.year.specs.declared.Year.{Year}
 use Rattle.year.specs.Year.{goodWpa, goodLine, isZeroLine, goodLines, goodYear, lineSlots, zeroLine}
@@ -207,7 +207,13 @@ module _ (y : Year) (v : validYear y ≡ true) where
   year-record = and-left (goodYear y) (logFits (y .log) (y .number)) may-write
 
   pub to-end : y .log .«regime_end» ≡ lastRegimeEnd
-  to-end = eqb-true (y .log .«regime_end») lastRegimeEnd (and-left (eqb (y .log .«regime_end») lastRegimeEnd) (all (startsIn (y .number)) (logEntries (y .log))) fits)
+  to-end = eqb-true (y .log .«regime_end») lastRegimeEnd (and-left (eqb (y .log .«regime_end») lastRegimeEnd) _ fits)
+
+  open-and-inside : (eqb (y .log .closed) 0 && all (startsIn (y .number)) (logEntries (y .log))) ≡ true
+  open-and-inside = and-right (eqb (y .log .«regime_end») lastRegimeEnd) _ fits
+
+  all-open : y .log .closed ≡ 0
+  all-open = eqb-true (y .log .closed) 0 (and-left (eqb (y .log .closed) 0) _ open-and-inside)
 
   log-parts : Valid (rowOf (y .log))
   log-parts = valid-says (rowOf (y .log)) log-valid
@@ -236,7 +242,7 @@ module _ (y : Year) (v : validYear y ≡ true) where
           few = omega (arith, taken, lined .few);
           lined = lines-fine [] (take (y .«line_count») (y .lines)) (lined .good);
           fewer = omega (arith, log-entries-length (y .log) slotted log-valid, log-parts .room);
-          logged = entries-fine (y .number) [] (logEntries (y .log)) (and-right (eqb (y .log .«regime_end») lastRegimeEnd) _ fits) (log-rules .good) (rules-made lastRegimeEnd (logEntries (y .log)) log-rules);
+          logged = entries-fine (y .number) [] (logEntries (y .log)) (and-right (eqb (y .log .closed) 0) _ open-and-inside) (log-rules .good) (rules-made lastRegimeEnd (logEntries (y .log)) log-rules);
           marked = mark-ok (y .exceptional);
           paid = wpa-ok (y .wpa) (said .wpa);
         }
@@ -245,7 +251,7 @@ module _ (y : Year) (v : validYear y ≡ true) where
     row-is = padded-back lineSlots zeroLine isZeroLine zero-line (y .lines) (y .«line_count») row (lined .few) (lined .free)
 
     log-is : logHolding lastRegimeEnd (logEntries (y .log)) ≡ y .log
-    log-is = ap (λ (re : ℕ). logHolding re (logEntries (y .log))) (sym to-end) ∙ sym (holds (y .log) slotted log-valid)
+    log-is = ap (λ (re : ℕ). logHolding re (logEntries (y .log))) (sym to-end) ∙ sym (open-holds (y .log) slotted log-valid) ∙ open-is (y .log) all-open
 
     -- a year is made of its parts
     pub year-back : yearOf (partsOf y) ≡ y
@@ -290,7 +296,7 @@ module _ (p : Parts) (f : Fine p) where
       (and-made
       (and-made (f .year) (and-made (f .pppi) (and-made (f .rate) (and-made (and-right (leb 0 (p .0 .1 .1 .1)) (leb (p .0 .1 .1 .1) 20000) (f .aic)) s))))
       (and-made (wpa-small (p .1 .1 .1 .1 .1) (f .paid)) lines-made))
-      (and-made refl (ap (all (startsIn (p .0 .0))) (log-holding-entries lastRegimeEnd es) ∙ entered .0)))
+      (and-made refl (and-made refl (ap (all (startsIn (p .0 .0))) (log-holding-entries lastRegimeEnd es) ∙ entered .0))))
 
   -- its parts are those that it was made of
   pub parts-back : partsOf (yearOf p) ≡ p

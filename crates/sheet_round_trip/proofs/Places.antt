@@ -13,6 +13,7 @@ use Rattle.lists.specs.Lists.{any}
 use Rattle.entries.specs.Row.{goodSpan, goodPower, sharesMinute}
 use Rattle.outage.specs.declared.Log.{Log}
 use Rattle.outage.specs.Log.{slots, goodRegimeEnd}
+use Rattle.outage.proofs.LogHolding.{open-is}
 use Rattle.codec.specs.Format.{Res, got, stopped}
 use Rattle.codec.specs.Message.{whole, refused, finish}
 use Rattle.codec.specs.Theorems.{Bytes}
@@ -69,7 +70,7 @@ module _ (regimeEnd : ℕ) (good : goodRegimeEnd regimeEnd ≡ true) where
 
   -- the sheet of a valid log is read as that log
   pub sheet-read : (log : Log) (bs : List ℕ) → IsSheetOf regimeEnd log bs → sheetReading regimeEnd bs ≡ whole log
-  sheet-read log bs s = ap (sheetReading regimeEnd) (sym (s .is)) ∙ written-read regimeEnd good log (s .slotted) (s .end) (s .valid)
+  sheet-read log bs s = ap (sheetReading regimeEnd) (sym (s .is)) ∙ written-read regimeEnd good log (s .slotted) (s .end) (s .valid) ∙ ap whole (open-is log (s .all-open))
 
   -- two valid logs with the same sheet are one
   pub same-bytes : (x y : Log) (bs : List ℕ) → IsSheetOf regimeEnd x bs → IsSheetOf regimeEnd y bs → x ≡ y

@@ -1,4 +1,4 @@
--- Out and in again gives the same log, in and out gives the same bytes, for every regime end and every length: a day sheet is a
+-- Out and in again gives the same log, all of it open; in and out gives the same bytes, for every regime end and every length: a day sheet is a
 -- message of its format. Assumes nothing.
 use mathlib.Core.Path.{_≡_, refl, sym, ap, _∙_}
 use mathlib.Core.Bool.{true}
@@ -15,8 +15,8 @@ use Rattle.entries.specs.Row.{firstRegimeEnd, lastRegimeEnd}
 use Rattle.entries.proofs.Order.{follows, follows-valid, rules-made, rules-say}
 use Rattle.entries.proofs.Rows.{valid-says}
 use Rattle.outage.specs.declared.Log.{Log}
-use Rattle.outage.specs.Log.{slots, rowOf, logEntries, validLog, logHolding, goodRegimeEnd}
-use Rattle.outage.proofs.LogHolding.{valid-end, valid-room, log-entries-length, holds, log-holding-entries, log-holding-slots, log-holding-valid}
+use Rattle.outage.specs.Log.{slots, rowOf, logEntries, validLog, closedAt, logHolding, goodRegimeEnd}
+use Rattle.outage.proofs.LogHolding.{valid-end, valid-room, closed-valid, log-entries-length, open-is, open-holds, log-holding-entries, log-holding-slots, log-holding-valid}
 use Rattle.codec.specs.Format.{texts, allFine}
 use Rattle.codec.specs.Shapes.{allKeep}
 use Rattle.codec.specs.Message.{whole}
@@ -81,6 +81,7 @@ module _ (regimeEnd : ℕ) (good : goodRegimeEnd regimeEnd ≡ true) where
       record {
         slotted = log-holding-slots regimeEnd (meant ps) (k .few);
         end = refl;
+        all-open = refl;
         valid = log-holding-valid regimeEnd (meant ps) good (k .few) (rules-say regimeEnd (meant ps) (sym (follows-valid regimeEnd (meant ps)) ∙ k .valid));
         is = ap (λ (es : List Entry). texts pieceItem [] (piecesIn es)) (log-holding-entries regimeEnd (meant ps)) ∙ ap (texts pieceItem []) (k .back);
       }
@@ -92,17 +93,18 @@ module _ (regimeEnd : ℕ) (good : goodRegimeEnd regimeEnd ≡ true) where
         said = sheet-of;
         ok = λ log bs s. rw (← s .end) (and-made (pieces-fine log (s .slotted) (s .valid)) (by-pieces log (s .slotted) (s .valid) .keep));
         is = λ log bs s. s .is;
-        back = λ log bs s. ap (logHolding regimeEnd) (by-pieces log (s .slotted) (s .valid) .means) ∙ ap (λ (r : ℕ). logHolding r (logEntries log)) (sym (s .end)) ∙ sym (holds log (s .slotted) (s .valid));
+        back = λ log bs s. ap (logHolding regimeEnd) (by-pieces log (s .slotted) (s .valid) .means) ∙ ap (λ (r : ℕ). logHolding r (logEntries log)) (sym (s .end)) ∙ sym (open-holds log (s .slotted) (s .valid)) ∙ open-is log (s .all-open);
       }
 
   pub sheet-lawful : Lawful (sheetForm regimeEnd) 20 22
   sheet-lawful = two-tags-lawful 20 entryLayout layout-laws (omega arith) (pieceNumber regimeEnd)
 
-  -- out and in again gives the same log
-  pub written-read : (log : Log) → length (log .entries) ≡ slots → log .«regime_end» ≡ regimeEnd → validLog log ≡ true → sheetReading regimeEnd (sheetOf log) ≡ whole log
-  unfolding sheetReading
+  -- out and in again gives the same log, all of it open
+  pub written-read : (log : Log) → length (log .entries) ≡ slots → log .«regime_end» ≡ regimeEnd → validLog log ≡ true → sheetReading regimeEnd (sheetOf log) ≡ whole (closedAt log 0)
+  unfolding sheetReading sheetOf
   written-read log slotted end v =
-      Message.written-read sheet-lawful sheet-messages (length (sheetOf log)) log (sheetOf log) (record { slotted = slotted; end = end; valid = v; is = refl }) (le-refl (length (sheetOf log)))
+      Message.written-read sheet-lawful sheet-messages (length (sheetOf log)) (closedAt log 0) (sheetOf log) (record { slotted = slotted; end = end; all-open = refl; valid = closed-valid log v 0 refl; is = refl })
+      (le-refl (length (sheetOf log)))
 
   -- in and out gives the same bytes
   pub read-written : (bs : List ℕ) (log : Log) → Bytes bs → sheetReading regimeEnd bs ≡ whole log → IsSheetOf regimeEnd log bs

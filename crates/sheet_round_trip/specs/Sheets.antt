@@ -11,10 +11,11 @@ use Rattle.codec.specs.Theorems as messages
 use Rattle.outage_field.specs.Field.{entryBytes}
 use Rattle.sheet_format.specs.Sheet.{sheetOf}
 
--- bytes are the sheet of a valid log to this regime end, which has its 400 slots
+-- bytes are the sheet of a valid log to this regime end, all of it open, which has its 400 slots
 pub record IsSheetOf (regimeEnd : ℕ) (log : Log) (bs : List ℕ) : Type 0 where
   pub slotted : length (log .entries) ≡ slots
   pub end : log .«regime_end» ≡ regimeEnd
+  pub all-open : log .closed ≡ 0
   pub valid : validLog log ≡ true
   pub is : sheetOf log ≡ bs
 

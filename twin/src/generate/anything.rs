@@ -121,7 +121,7 @@ impl Generator {
         } else {
             (self.any_period(), self.any_period())
         };
-        match self.random.below(40) {
+        match self.random.below(42) {
             0 => Call::Empty { regime_end: self.any_u32() },
             1 => Call::Enter { outage: self.any_outage() },
             2 => Call::Cancel { start: self.any_u32() },
@@ -162,7 +162,17 @@ impl Generator {
             31 => Call::Empty { regime_end: self.random.fair_regime_end() },
             32 => Call::SetBook { book: self.random.fair_book(self.desk.log.regime_end) },
             33 => Call::Enter { outage: Slot { start: 5, end: 9, mw: self.random.mw() } },
+            34 => Call::Close { minute: self.any_closing() },
+            35 => Call::SetClosed { minute: self.any_closing() },
             _ => self.any_sheet_call(),
+        }
+    }
+
+    fn any_closing(&mut self) -> u32 {
+        if self.random.one_in(2) {
+            self.any_u32()
+        } else {
+            self.closing_minute()
         }
     }
 

@@ -136,7 +136,7 @@ impl Generator {
         outages
     }
 
-    fn put_book(&mut self, regime_end: u32) {
+    pub fn put_book(&mut self, regime_end: u32) {
         let book = self.random.fair_book(regime_end);
         self.call(Call::SetBook { book });
     }
@@ -153,8 +153,16 @@ impl Generator {
         outages
     }
 
-    /// Builds a log: an outage at a time in any order, or slot by slot.
+    /// Builds a log, one in eight of them closed.
     pub fn put_log(&mut self, outages: &[Slot], regime_end: u32) {
+        self.put_open_log(outages, regime_end);
+        if self.random.one_in(8) {
+            self.close_log();
+        }
+    }
+
+    /// Builds an open log: an outage at a time in any order, or slot by slot.
+    pub fn put_open_log(&mut self, outages: &[Slot], regime_end: u32) {
         self.call(Call::Empty { regime_end });
         if outages.len() <= 30 && self.random.one_in(2) {
             let mut order = outages.to_vec();
@@ -180,6 +188,10 @@ impl Generator {
 
     /// One call on the log that stands.
     pub fn log_call(&mut self) {
+        if self.random.one_in(50) {
+            let minute = self.closing_minute();
+            return self.call(Call::Close { minute });
+        }
         let number = self.random.year_number();
         let call = match self.random.below(22) {
             0..=7 => Call::Enter { outage: self.outage_to_enter() },
@@ -205,12 +217,12 @@ impl Generator {
     }
 
     /// The slots up to the count, as far as there are any.
-    fn held(&self) -> &[Slot] {
+    pub fn held(&self) -> &[Slot] {
         &self.desk.log.slots[..self.desk.log.count.min(SLOTS as u64) as usize]
     }
 
     /// A held entry and the start of the one after it.
-    fn some_entry(&mut self) -> Option<(Slot, u32)> {
+    pub fn some_entry(&mut self) -> Option<(Slot, u32)> {
         let count = self.held().len();
         if count == 0 {
             return None;
@@ -280,7 +292,7 @@ impl Generator {
         }
     }
 
-    fn stretch(&mut self) -> (u32, u32) {
+    pub fn stretch(&mut self) -> (u32, u32) {
         let regime_end = self.desk.log.regime_end;
         let at = self.random.minute();
         let (a, b) = match (self.random.below(10), self.some_entry()) {
@@ -310,6 +322,10 @@ impl Generator {
     /// Breaks the log that stands, which has so many entries, in one way.
     pub fn break_log(&mut self, count: usize) {
         let log = self.desk.log.clone();
+        if self.random.one_in(8) {
+            let minute = self.random.bad_closed(log.regime_end);
+            return self.call(Call::SetClosed { minute });
+        }
         let place = self.random.below(count.max(1) as u64) as usize;
         let mut slot = log.slots[place];
         match self.random.below(if count == 0 { 6 } else { 18 }) {

@@ -96,7 +96,7 @@ impl Generator {
     fn change_and_write(&mut self, k: u8) {
         let year = self.desk.years[k as usize].clone();
         let mut fields = YearFields::of(&year);
-        match self.random.below(6) {
+        match self.random.below(7) {
             0 => fields.number = fields.number % 25 + 1,
             1 => self.random.spoil_fields(&mut fields),
             2 => {
@@ -125,6 +125,10 @@ impl Generator {
                 if self.random.one_in(2) {
                     self.random.spoil_fields(&mut fields);
                 }
+            }
+            5 => {
+                self.call(Call::TakeLog { k });
+                self.close_and_write(k);
             }
             _ => {
                 (fields.pyc, fields.pyf) = self.random.pick(&[(10_000, 10_000), (10_000, 9_999)]);

@@ -358,7 +358,7 @@ impl Generator {
     }
 
     /// Reads a sheet, in one call or through the kept bytes.
-    fn read_sheet(&mut self, regime_end: u32, bytes: Vec<u8>) {
+    pub fn read_sheet(&mut self, regime_end: u32, bytes: Vec<u8>) {
         if bytes.len() > 60_000 || self.random.one_in(2) {
             self.keep_all(&bytes);
             self.call(Call::ReadSheetKept { regime_end });
@@ -368,7 +368,7 @@ impl Generator {
     }
 
     /// Writes the log that stands, and shows it where it is short.
-    fn write_sheet(&mut self) {
+    pub fn write_sheet(&mut self) {
         let room = self.sheet_room();
         self.call(Call::WriteSheet { room });
         if room <= 200 && self.random.one_in(3) {
@@ -410,6 +410,10 @@ impl Generator {
         }
         self.put_log(&outages, regime_end);
         self.write_sheet();
+        if self.random.one_in(3) {
+            self.close_log();
+            self.write_sheet();
+        }
         let bytes = write(&self.desk.log, usize::MAX).unwrap_or_default();
         self.read_sheet(regime_end, bytes.clone());
         self.write_sheet();

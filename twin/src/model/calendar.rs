@@ -109,6 +109,16 @@ pub fn year_minutes(number: u8, regime_end: u32) -> Result<(i128, i128), Refusal
     }
 }
 
+/// The year ends by a regime end, in order of the years (rule 2.2).
+pub fn year_ends(regime_end: u32) -> impl Iterator<Item = i128> {
+    (1..=25).map(move |number| year_minutes(number, regime_end).unwrap().1)
+}
+
+/// Whether a year ends at this minute.
+pub fn is_year_end(minute: u32, regime_end: u32) -> bool {
+    year_ends(regime_end).any(|end| end == minute as i128)
+}
+
 #[cfg(test)]
 mod tests {
     use super::*;
@@ -123,6 +133,23 @@ mod tests {
         assert_eq!(year_minutes(0, 0), Err(9));
         assert_eq!(year_minutes(26, 0), Err(9));
         assert_eq!(minute_of_date(2045, 1, 1), Some(13_632_480));
+    }
+
+    #[test]
+    fn year_ends_are_the_starts_of_the_next_and_the_regime_end() {
+        let ends: Vec<i128> = year_ends(13_000_000).collect();
+        assert_eq!(ends.len(), 25);
+        assert_eq!((ends[0], ends[1]), (482_400, 1_009_440));
+        assert_eq!((ends[23], ends[24]), (12_579_840, 13_000_000));
+        for number in 2..=25 {
+            let (first, _) = year_minutes(number, 13_000_000).unwrap();
+            assert!(is_year_end(first as u32, 13_000_000));
+            assert!(!is_year_end(first as u32 - 1, 13_000_000));
+            assert!(!is_year_end(first as u32 + 1, 13_000_000));
+        }
+        assert!(!is_year_end(0, 13_000_000) && !is_year_end(u32::MAX, 13_000_000));
+        assert!(is_year_end(13_000_000, 13_000_000) && !is_year_end(13_632_480, 13_000_000));
+        assert!(is_year_end(12_579_841, 12_579_841) && is_year_end(12_579_840, 12_579_841));
     }
 
     #[test]

@@ -25,7 +25,7 @@ pub mod yearly_return;
 #[cfg(test)]
 mod figures;
 
-/// A refusal's number, 1 to 15.
+/// A refusal's number, 1 to 16.
 pub type Refusal = u8;
 
 /// 10^9, the limit of amounts and levels.

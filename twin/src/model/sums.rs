@@ -26,6 +26,7 @@ impl Sum {
         }
         self.add_wide(log.count);
         self.add(log.regime_end);
+        self.add(log.closed);
     }
 }
 
@@ -74,5 +75,14 @@ mod tests {
         let mut wide = Sum::default();
         wide.add_wide(u64::MAX);
         assert_eq!(wide.0, (4 * 65_599 + 4) % 4_294_967_291);
+    }
+
+    #[test]
+    fn a_log_ends_with_its_closed_minute() {
+        let open = Log::fresh();
+        let mut closed = open.clone();
+        closed.closed = 482_400;
+        assert_eq!(log_sum(&open), 13_632_480 * 65_599 % 4_294_967_291);
+        assert_eq!(log_sum(&closed), (13_632_480 * 65_599 + 482_400) % 4_294_967_291);
     }
 }
