@@ -283,13 +283,49 @@ static void stand_kept_sheet(unsigned fullness)
     }
 }
 
+/* ---- The plan: 23:30 to 01:30 every 14 days; at 100 % of 400 outages, at 0 % of one */
+
+enum { PLAN = 30, PLAN_START = 1410, PLAN_MINUTES = 120, PLAN_DAYS = 14, PLAN_MW = 500, PLAN_BYTES = 17 };
+
+static void put_plan(unsigned fullness)
+{
+    put(4, PLAN_START);
+    put(4, PLAN_MINUTES);
+    put(2, PLAN_DAYS);
+    put(2, with_one(fullness));
+    put(2, PLAN_MW);
+}
+
+/* The message of the plan under a tag, to be read. */
+static void read_plan_with(uint8_t tag, unsigned fullness)
+{
+    const size_t place = begin(66);
+    const size_t field = begin(tag);
+    put_plan(fullness);
+    end(field);
+    end(place);
+}
+
+static void write_plan_with(unsigned room, unsigned fullness)
+{
+    const size_t place = begin(67);
+    put_plan(fullness);
+    put(4, room);
+    end(place);
+}
+
 /* ---- Calls */
+
+static void enter_outage(uint32_t start, uint32_t minutes, uint16_t mw)
+{
+    const size_t place = begin(2);
+    put_outage(start, minutes, mw);
+    end(place);
+}
 
 static void enter(uint32_t start)
 {
-    const size_t place = begin(2);
-    put_outage(start, 1000, 200);
-    end(place);
+    enter_outage(start, 1000, 200);
 }
 
 static void cancel(uint32_t start)
@@ -333,6 +369,23 @@ static void cancel_front(unsigned fullness)
 static void cancel_end(unsigned fullness)
 {
     cancel(start_of(with_one(fullness) - 1));
+    short_field(39, 1, SPARE);
+}
+
+/* A plan into an empty log, which is then taken from the spare year: that one is fresh. */
+static void enter_plan(unsigned fullness)
+{
+    const size_t place = begin(65);
+    put_plan(fullness);
+    end(place);
+    short_field(39, 1, SPARE);
+}
+
+/* The outages of the plan entered one by one. */
+static void enter_each(unsigned fullness)
+{
+    for (unsigned i = 0; i < with_one(fullness); i++)
+        enter_outage(PLAN_START + i * PLAN_DAYS * DAY, PLAN_MINUTES, PLAN_MW);
     short_field(39, 1, SPARE);
 }
 
@@ -416,6 +469,24 @@ static void write_sheet(unsigned fullness)
     short_field(25, 4, PIECE_BYTES * pieces_of(part(LOG_SLOTS, fullness)));
 }
 
+static void list_plan(unsigned fullness)
+{
+    const size_t place = begin(64);
+    put(4, LAST_REGIME_END);
+    put_plan(fullness);
+    end(place);
+}
+
+static void read_plan(unsigned fullness)
+{
+    read_plan_with(PLAN, fullness);
+}
+
+static void write_plan(unsigned fullness)
+{
+    write_plan_with(PLAN_BYTES, fullness);
+}
+
 /* ---- Bases: the cheapest call of the like kind */
 
 /* An entry of the growth table: a short call and a short answer. */
@@ -434,6 +505,14 @@ static void two_growths(unsigned fullness)
 static void growth_and_take(unsigned fullness)
 {
     growth(fullness);
+    short_field(39, 1, SPARE);
+}
+
+/* A growth for each outage of the plan. */
+static void growths_and_take(unsigned fullness)
+{
+    for (unsigned i = 0; i < with_one(fullness); i++)
+        growth(fullness);
     short_field(39, 1, SPARE);
 }
 
@@ -470,6 +549,17 @@ static void print_refused(unsigned fullness)
     print_with(put_refused_return, fullness);
 }
 
+/* A plan whose tag is unknown: refused at place 0. */
+static void read_plan_refused(unsigned fullness)
+{
+    read_plan_with(0, fullness);
+}
+
+static void write_plan_refused(unsigned fullness)
+{
+    write_plan_with(PLAN_BYTES - 1, fullness);
+}
+
 /* ---- Cases */
 
 struct bench_case {
@@ -488,6 +578,8 @@ static const struct bench_case CASES[] = {
     {"cancel-front", stand_to_cancel, cancel_front, growth_and_take},
     {"cancel-end", stand_to_cancel, cancel_end, growth_and_take},
     {"cancel-none", stand_entries, cancel_none, growth},
+    {"enter-plan", stand_nothing, enter_plan, growth_and_take},
+    {"enter-each", stand_nothing, enter_each, growths_and_take},
     {"close", stand_entries, close_call, growth},
     {"lost", stand_entries, lost, growth},
     {"levels", stand_years, levels, growth},
@@ -500,6 +592,9 @@ static const struct bench_case CASES[] = {
     {"print", stand_nothing, print, print_refused},
     {"read-sheet", stand_kept_sheet, read_sheet, growth},
     {"write-sheet", stand_touching, write_sheet, refile_kept_nothing},
+    {"list-plan", stand_nothing, list_plan, growth},
+    {"read-plan", stand_nothing, read_plan, read_plan_refused},
+    {"write-plan", stand_nothing, write_plan, write_plan_refused},
 };
 
 static const struct bench_case *case_of(const char *name, size_t length)

@@ -83,14 +83,20 @@ static inline uint64_t add_wide(uint64_t sum, uint64_t number)
     return add(add(sum, (uint32_t)(number >> 32)), (uint32_t)number);
 }
 
-static uint64_t add_log(uint64_t sum, const struct log *log)
+static uint64_t add_entries(uint64_t sum, const struct entry entries[LOG_SLOTS])
 {
     for (size_t i = 0; i < LOG_SLOTS; i++) {
-        sum = add(sum, log->entries[i].start);
-        sum = add(sum, log->entries[i].end);
-        sum = add(sum, log->entries[i].mw);
+        sum = add(sum, entries[i].start);
+        sum = add(sum, entries[i].end);
+        sum = add(sum, entries[i].mw);
     }
-    return add(add(add_wide(sum, log->count), log->regime_end), log->closed);
+    return sum;
+}
+
+static uint64_t add_log(uint64_t sum, const struct log *log)
+{
+    sum = add_wide(add_entries(sum, log->entries), log->count);
+    return add(add(sum, log->regime_end), log->closed);
 }
 
 static uint64_t year_sum(const struct year *y)
@@ -126,6 +132,17 @@ static void answer_log(int number)
     figure(the_log.count);
     figure(add_log(0, &the_log));
     end_line();
+}
+
+/* The place of what fails before count and sum. */
+static bool answer_placed(int number, uint64_t place, uint64_t count, uint64_t sum)
+{
+    begin((uint64_t)number);
+    figure(place);
+    figure(count);
+    figure(sum);
+    end_line();
+    return true;
 }
 
 static void answer_unsigned(int number, uint64_t one)
@@ -411,12 +428,7 @@ static bool answer_sheet(uint32_t regime_end, const uint8_t *bytes, size_t lengt
 {
     size_t place;
     const int number = read_sheet(bytes, length, regime_end, &the_log, &place);
-    begin((uint64_t)number);
-    figure(place);
-    figure(the_log.count);
-    figure(add_log(0, &the_log));
-    end_line();
-    return true;
+    return answer_placed(number, place, the_log.count, add_log(0, &the_log));
 }
 
 static bool call_read_sheet(struct value v)
@@ -452,6 +464,48 @@ static bool call_print_outage(struct value v)
     size_t length;
     const int number = print_outage(get_entry(v.bytes), text, &length);
     return answer_text(number, text, length);
+}
+
+/* ---- Calls on a plan */
+
+static bool call_list_plan(struct value v)
+{
+    struct list list;
+    uint32_t failed;
+    const int number = list_plan(get32(v.bytes), get_plan(v.bytes + 4), &list, &failed);
+    return answer_placed(number, failed, list.count, add_entries(0, list.entries));
+}
+
+static bool call_enter_plan(struct value v)
+{
+    uint32_t failed;
+    const int number = enter_plan(&the_log, get_plan(v.bytes), &failed);
+    return answer_placed(number, failed, the_log.count, add_log(0, &the_log));
+}
+
+static bool call_read_plan(struct value v)
+{
+    struct plan plan;
+    size_t place;
+    const int number = read_plan(v.bytes, v.length, &plan, &place);
+    begin((uint64_t)number);
+    figure(place);
+    figure(plan.start);
+    figure(plan.length);
+    figure(plan.step);
+    figure(plan.count);
+    figure(plan.mw);
+    end_line();
+    return true;
+}
+
+static bool call_write_plan(struct value v)
+{
+    const size_t size = lend(get32(v.bytes + 14));
+    size_t length;
+    const int number = write_plan(get_plan(v.bytes), lent, size, &length);
+    answer_two(number, length, byte_sum(lent, size));
+    return true;
 }
 
 /* ---- Setting what stands */
@@ -715,6 +769,10 @@ static const struct call CALLS[] = {
     [50] = {show_book, 0, false},
     [51] = {show_written, 3, false},
     [52] = {show_sheet, 2, false},
+    [64] = {call_list_plan, 18, false},
+    [65] = {call_enter_plan, 14, false},
+    [66] = {call_read_plan, 0, true},
+    [67] = {call_write_plan, 18, false},
 };
 
 /* What was read of the script and is not carried out yet: from `at` to `end`. */

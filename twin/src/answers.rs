@@ -21,10 +21,13 @@ pub fn refusal_words(number: i128) -> &'static str {
         10 => "floor balance above cap balance",
         11 => "above 10^9, or a balance or what is settled above 10^10",
         12 => "day number out of range, period reversed, or n not 0 to 499",
-        13 => "return or day sheet malformed",
-        14 => "no room for the written return or day sheet",
+        13 => "return, day sheet or plan malformed",
+        14 => "no room for the written return, day sheet or plan",
         15 => "a piece of a day sheet that does not fit",
         16 => "starts in closed time",
+        17 => {
+            "the plan's count is not 1 to 400, its step is 0, or its window is longer than its step"
+        }
         _ => "no such refusal",
     }
 }
@@ -95,6 +98,13 @@ fn book_words(numbers: &[i128]) -> Option<String> {
     ))
 }
 
+/// A plan as it was read.
+fn plan_words(numbers: &[i128]) -> Option<String> {
+    let [start, length, step, count, mw] = numbers[..] else { return None };
+    let start = time_words(start);
+    Some(format!("from {start} on, {length} minutes every {step} days, {count} times, {mw} MW"))
+}
+
 /// A call's figures where it is accepted.
 fn figure_words(call: &Call, figures: &[i128]) -> Option<String> {
     let first = figures.first().copied();
@@ -120,13 +130,16 @@ fn figure_words(call: &Call, figures: &[i128]) -> Option<String> {
         Call::Read { .. } | Call::ReadKept { .. } => {
             format!("accepted, year sum {}", figures.get(1)?)
         }
-        Call::ReadSheet { .. } | Call::ReadSheetKept { .. } => {
+        Call::ReadSheet { .. } | Call::ReadSheetKept { .. } | Call::EnterPlan { .. } => {
             format!("accepted, {}", entries(*figures.get(1)?))
         }
+        Call::ListPlan { .. } => format!("lists {}", entries(*figures.get(1)?)),
+        Call::ReadPlan { .. } => plan_words(figures.get(1..)?)?,
         Call::Write { .. }
         | Call::Refile { .. }
         | Call::RefileKept { .. }
-        | Call::WriteSheet { .. } => {
+        | Call::WriteSheet { .. }
+        | Call::WritePlan { .. } => {
             format!("{} bytes, buffer sum {}", first?, figures.get(1)?)
         }
         Call::Print { .. } | Call::PrintMinute { .. } | Call::PrintOutage { .. } => {
@@ -157,7 +170,11 @@ fn words_of_numbers(call: &Call, numbers: &[i128]) -> Option<String> {
         Call::Read { .. }
         | Call::ReadKept { .. }
         | Call::ReadSheet { .. }
-        | Call::ReadSheetKept { .. } => format!(" at place {}", figures.first()?),
+        | Call::ReadSheetKept { .. }
+        | Call::ReadPlan { .. } => format!(" at place {}", figures.first()?),
+        Call::ListPlan { .. } | Call::EnterPlan { .. } if *figures.first()? > 0 => {
+            format!(" at outage {}", figures[0])
+        }
         _ => String::new(),
     };
     Some(format!("refused {number}{place}: {}", refusal_words(*number)))
@@ -194,20 +211,37 @@ mod tests {
         assert_eq!(words("target 2", "0 1"), "met");
         assert_eq!(
             words("read 0 00", "13 0 5"),
-            "refused 13 at place 0: return or day sheet malformed"
+            "refused 13 at place 0: return, day sheet or plan malformed"
         );
         assert_eq!(words("set-count 0 0", "0"), "done");
         assert_eq!(words("show-log", "malformed 12"), "malformed at place 12 of the script");
         assert_eq!(words("levels 0", "what"), "what");
         assert_eq!(
             words("show-write 0 3", "14 0 0 1 2"),
-            "refused 14: no room for the written return or day sheet"
+            "refused 14: no room for the written return, day sheet or plan"
         );
         assert_eq!(words("read-sheet 0 00", "0 0 1 99"), "accepted, 1 entry");
         let misfit = "refused 15 at place 26: a piece of a day sheet that does not fit";
         assert_eq!(words("read-sheet-kept 0", "15 26 0 99"), misfit);
         assert_eq!(words("show-sheet 4", "0 2 20 21 253 252"), "2 bytes: 1415");
         assert_eq!(words("print-minute 0", "0 16 99"), "text of 16 bytes, sum 99");
+    }
+
+    #[test]
+    fn plans_in_words() {
+        let (list, enter) = ("list-plan 0 0 1 1 1 1", "enter-plan 0 1 1 1 1");
+        assert_eq!(words(list, "0 0 27 99"), "lists 27 entries");
+        assert_eq!(words(enter, "0 0 1 99"), "accepted, 1 entry");
+        let clash = "refused 4 at outage 3: shares a minute with an entry";
+        assert_eq!(words(enter, "4 3 1 99"), clash);
+        assert!(words(list, "17 0 0 0").starts_with("refused 17: the plan's count is not 1 to 400"));
+        assert_eq!(
+            words("read-plan 00", "0 0 1410 120 14 27 500"),
+            "from 2019-01-31 23:30 on, 120 minutes every 14 days, 27 times, 500 MW",
+        );
+        let malformed = "refused 13 at place 17: return, day sheet or plan malformed";
+        assert_eq!(words("read-plan 00", "13 17 0 0 0 0 0"), malformed);
+        assert_eq!(words("write-plan 0 1 1 1 1 20", "0 17 99"), "17 bytes, buffer sum 99");
     }
 
     #[test]

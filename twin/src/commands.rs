@@ -16,8 +16,11 @@ use crate::words::{call_words, parse_line, word};
 
 /// Where the script of a difference is written.
 const DIFFERENCE: &str = "target/twin-difference.script";
-/// The last tag of a call of the library; those above it set and show.
-const LAST_CALL: u8 = 28;
+/// The tags of calls of the library but for those on plans; the others set and
+/// show.
+const CALLS: RangeInclusive<u8> = 1..=28;
+/// The tags of calls on plans.
+const PLANS: RangeInclusive<u8> = 64..=67;
 /// The tags of calls on returns.
 const RETURNS: RangeInclusive<u8> = 17..=22;
 /// The tags of calls on day sheets and dates.
@@ -27,6 +30,11 @@ const SHOWN_DIFFERENCES: usize = 10;
 
 /// Whether all went well; an `Err` says what did not.
 type Outcome = Result<bool, String>;
+
+/// Whether a tag is that of a call of the library.
+fn is_of_library(tag: u8) -> bool {
+    CALLS.contains(&tag) || PLANS.contains(&tag)
+}
 
 fn start(command: &[String]) -> Result<Child, String> {
     Command::new(&command[0])
@@ -78,7 +86,7 @@ fn write_script(seed: u64, least: u64, parts: mpsc::Sender<Part>, mut stdin: Chi
         };
         let mut script = Vec::new();
         for (call, _) in &block.calls {
-            calls += (call.tag() <= LAST_CALL) as u64;
+            calls += is_of_library(call.tag()) as u64;
             returns += RETURNS.contains(&call.tag()) as u64;
             sheets += SHEETS.contains(&call.tag()) as u64;
             script.extend(call.encode());
@@ -101,6 +109,7 @@ struct Tally {
     calls: u64,
     returns: u64,
     sheets: u64,
+    plans: u64,
     numbers: BTreeMap<u8, BTreeMap<u8, u64>>,
     others: u64,
 }
@@ -108,13 +117,14 @@ struct Tally {
 impl Tally {
     fn count(&mut self, call: &Call, answer: &str) {
         let tag = call.tag();
-        if tag > LAST_CALL {
+        if !is_of_library(tag) {
             self.others += 1;
             return;
         }
         self.calls += 1;
         self.returns += RETURNS.contains(&tag) as u64;
         self.sheets += SHEETS.contains(&tag) as u64;
+        self.plans += PLANS.contains(&tag) as u64;
         let number = answer.split(' ').next().and_then(|number| number.parse().ok()).unwrap_or(0);
         *self.numbers.entry(tag).or_default().entry(number).or_default() += 1;
     }
@@ -219,8 +229,9 @@ pub fn compare(seed: u64, least: u64, command: &[String]) -> Outcome {
     child.wait().map_err(|error| error.to_string())?;
     tally.print();
     println!(
-        "twin: {} calls compared, {} of them returns, {} day sheets and dates, 0 differences",
-        tally.calls, tally.returns, tally.sheets
+        "twin: {} calls compared, {} of them returns, {} day sheets and dates, {} plans, \
+         0 differences",
+        tally.calls, tally.returns, tally.sheets, tally.plans
     );
     Ok(true)
 }
@@ -403,7 +414,7 @@ pub fn figures(path: &str, command: &[String]) -> Outcome {
             println!("  expected: {expected}");
             println!("  program:  {}", shown(found));
             if let Some(number) = found.split(' ').next().and_then(|number| number.parse().ok()) {
-                if number != 0 && call.tag() <= LAST_CALL {
+                if number != 0 && is_of_library(call.tag()) {
                     println!("  refused {number}: {}", refusal_words(number));
                 }
             }

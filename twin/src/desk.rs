@@ -11,11 +11,12 @@ use crate::model::dates::{minute_text, outage_text};
 use crate::model::daysheet;
 use crate::model::growth::growth;
 use crate::model::levels::{availability, levels, target_met};
-use crate::model::log::Log;
+use crate::model::log::{slotted, Log, Slot};
+use crate::model::plan::{self, Failure, Plan};
 use crate::model::revenue::assessed_revenue;
 use crate::model::settlement::{gap, payment, reconcile, settle};
 use crate::model::sheet;
-use crate::model::sums::{byte_sum, log_sum, year_sum};
+use crate::model::sums::{byte_sum, log_sum, slot_sum, year_sum};
 use crate::model::year::Year;
 use crate::model::yearly_return::{read, write_into};
 use crate::model::Refusal;
@@ -86,6 +87,31 @@ fn refile_answer(bytes: &[u8], room: usize) -> String {
         Ok(year) => write_into(&year, buffer),
         Err(_) => (13, 0),
     })
+}
+
+/// The refusal's number and that of the outage that fails, both 0 where none
+/// does.
+fn failure_numbers(failure: Option<Failure>) -> [i128; 2] {
+    let (number, outage) = failure.unwrap_or((0, 0));
+    [number as i128, outage as i128]
+}
+
+/// The answer of a plan that is listed; a refused list has no outage.
+fn list_answer(listed: Result<Vec<Slot>, Failure>) -> String {
+    let [number, outage] = failure_numbers(listed.as_ref().err().copied());
+    let outages = listed.unwrap_or_default();
+    let sum = slot_sum(&slotted(&outages));
+    row([number, outage, outages.len() as i128, sum as i128])
+}
+
+/// The answer of a plan that is read: the number, the place and the plan, which
+/// is of zeros beside a refusal.
+fn plan_answer(read: Result<Plan, usize>) -> String {
+    let (number, place) = read.err().map_or((0, 0), |place| (13, place as i128));
+    let plan = read.unwrap_or_default();
+    let (start, length) = (plan.start as i128, plan.length as i128);
+    let (step, count, mw) = (plan.step as i128, plan.count as i128, plan.mw as i128);
+    row([number, place, start, length, step, count, mw])
 }
 
 /// The answer of a text, which is empty beside a refusal.
@@ -172,6 +198,12 @@ impl Desk {
         row([number as i128, place as i128, count, sum])
     }
 
+    /// Enters a plan into the log that stands, and gives the answer.
+    fn enter_plan(&mut self, plan: &Plan) -> String {
+        let [number, outage] = failure_numbers(plan::enter(&mut self.log, plan).err());
+        row([number, outage, self.log.count as i128, log_sum(&self.log) as i128])
+    }
+
     fn year(&mut self, k: u8) -> &mut Year {
         &mut self.years[k as usize]
     }
@@ -248,6 +280,12 @@ impl Desk {
             Call::ShowSheet { room } => {
                 written_bytes(*room, |buffer| sheet::write_into(&self.log, buffer))
             }
+            Call::ListPlan { regime_end, plan } => list_answer(plan::list(*regime_end, plan)),
+            Call::EnterPlan { plan } => self.enter_plan(plan),
+            Call::ReadPlan { bytes } => plan_answer(plan::read(bytes)),
+            Call::WritePlan { plan, room } => {
+                written_sum(*room as usize, |buffer| plan::write_into(plan, buffer))
+            }
             setting => {
                 self.set(setting);
                 "0".to_string()
@@ -309,7 +347,6 @@ pub fn carry_out_script(input: &mut impl BufRead, output: &mut impl Write) -> io
 #[cfg(test)]
 mod tests {
     use super::*;
-    use crate::model::log::Slot;
 
     fn answers(script: &[u8]) -> String {
         let mut output = Vec::new();
@@ -422,6 +459,35 @@ mod tests {
         assert_eq!(answer, format!("8 0 0 {}", log_sum(&Log::fresh())));
         assert_eq!(desk.carry_out(&Call::ShowSheet { room: 2 }), "0 0 255 254");
         assert_eq!(desk.carry_out(&Call::PrintMinute { minute: 13_632_481 }), "7 0 0");
+    }
+
+    #[test]
+    fn plans_are_listed_entered_read_and_written() {
+        let mut desk = Desk::new();
+        let plan = Plan { start: 100, length: 50, step: 1, count: 2, mw: 7 };
+        let outages =
+            [Slot { start: 100, end: 150, mw: 7 }, Slot { start: 1_540, end: 1_590, mw: 7 }];
+        let mut log = Log::fresh();
+        log.hold(&outages);
+        let listed = desk.carry_out(&Call::ListPlan { regime_end: 13_000_000, plan });
+        assert_eq!(listed, format!("0 0 2 {}", slot_sum(&slotted(&outages))));
+        let past = Plan { step: 65_535, ..plan };
+        let failed = desk.carry_out(&Call::ListPlan { regime_end: 13_000_000, plan: past });
+        assert_eq!(failed, "2 2 0 0");
+        assert_eq!(desk.carry_out(&Call::ListPlan { regime_end: 0, plan: past }), "8 0 0 0");
+        let entered = desk.carry_out(&Call::EnterPlan { plan });
+        assert_eq!(entered, format!("0 0 2 {}", log_sum(&log)));
+        for (refused, numbers) in [(plan, "4 1"), (past, "4 1"), (Plan::default(), "17 0")] {
+            let answer = desk.carry_out(&Call::EnterPlan { plan: refused });
+            assert_eq!(answer, format!("{numbers} 2 {}", log_sum(&log)));
+        }
+        let bytes = plan.bytes();
+        let sum = byte_sum(&bytes);
+        assert_eq!(desk.carry_out(&Call::WritePlan { plan, room: 17 }), format!("0 17 {sum}"));
+        assert!(desk.carry_out(&Call::WritePlan { plan, room: 16 }).starts_with("14 0 "));
+        let more = [&bytes[..], &[0]].concat();
+        assert_eq!(desk.carry_out(&Call::ReadPlan { bytes }), "0 0 100 50 1 2 7");
+        assert_eq!(desk.carry_out(&Call::ReadPlan { bytes: more }), "13 17 0 0 0 0 0");
     }
 
     #[test]

@@ -4,6 +4,7 @@ mod anything;
 mod assessments;
 mod closings;
 mod logs;
+mod plans;
 mod random;
 mod records;
 mod returns;
@@ -42,7 +43,7 @@ impl Generator {
     }
 
     pub fn next_block(&mut self) -> Block {
-        match self.random.below(30) {
+        match self.random.below(33) {
             0..=3 => self.block("log", Generator::log_work),
             4 | 5 => self.block("full log", Generator::full_log_work),
             6 | 7 => self.block("broken log", Generator::broken_log_work),
@@ -55,6 +56,7 @@ impl Generator {
             20..=22 => self.return_block(),
             23..=25 => self.sheet_block(),
             26..=28 => self.block("closed years", Generator::closed_work),
+            29..=31 => self.plan_block(),
             _ => self.block("anything", Generator::any_work),
         }
     }
@@ -65,6 +67,10 @@ impl Generator {
 
     pub fn sheet_block(&mut self) -> Block {
         self.block("day sheets", Generator::sheet_work)
+    }
+
+    fn plan_block(&mut self) -> Block {
+        self.block("plans", Generator::plan_work)
     }
 
     fn block(&mut self, name: &'static str, work: fn(&mut Generator)) -> Block {
@@ -107,10 +113,10 @@ impl Generator {
         let random = &mut self.random;
         let k_tags = [8, 9, 21, 37, 38, 39, 49];
         let mut field = match random.below(10) {
-            0 => vec![random.pick(&[0, 29, 31, 43, 47, 53, 255]), 0, 0],
+            0 => vec![random.pick(&[0, 29, 31, 43, 47, 53, 63, 68, 255]), 0, 0],
             1 => vec![random.pick(&k_tags), 0, 1, random.pick(&[5, 255])],
             2 => vec![random.pick(&[18, 51]), 0, 3, 5, 0, 0],
-            3 => vec![random.pick(&[17, 19, 23]), 0, 0],
+            3 => vec![random.pick(&[17, 19, 23, 64, 65, 67]), 0, 0],
             4 => vec![17, 0, 2, 5, 1],
             5 => {
                 let slot = random.pick(&[400u16, 401, 65_535]).to_be_bytes();
@@ -136,7 +142,7 @@ impl Generator {
     /// A field whose length is not that of its tag, or a field that is cut.
     fn wrong_length(&mut self) -> Vec<u8> {
         let mut block = self.block("anything", Generator::any_work);
-        block.calls.retain(|(call, _)| ![17, 19, 20, 23, 40].contains(&call.tag()));
+        block.calls.retain(|(call, _)| ![17, 19, 20, 23, 40, 66].contains(&call.tag()));
         let (call, _) = self.random.pick(&block.calls);
         let mut field = call.encode();
         if self.random.one_in(2) {
@@ -159,6 +165,23 @@ mod tests {
     use crate::model::log::{Log, Slot};
     use crate::script::{next_field, Field};
     use std::collections::BTreeMap;
+
+    /// How often each edge that calls try is tried, in many blocks. Which ones a
+    /// call tries is told from what stands before it and its answer.
+    pub fn seen<Edge: Ord>(edges: fn(&Desk, &Call, &str) -> Vec<Edge>) -> BTreeMap<Edge, u64> {
+        let mut generator = Generator::new(1);
+        let mut seen = BTreeMap::new();
+        for _ in 0..770 {
+            let mut desk = Desk::new();
+            for (call, answer) in generator.next_block().calls {
+                for edge in edges(&desk, &call, &answer) {
+                    *seen.entry(edge).or_default() += 1;
+                }
+                desk.carry_out(&call);
+            }
+        }
+        seen
+    }
 
     #[test]
     fn a_block_stands_alone() {
@@ -205,7 +228,7 @@ mod tests {
             for (call, answer) in generator.next_block().calls {
                 let log = desk.log.clone();
                 desk.carry_out(&call);
-                if ![2, 3, 28].contains(&call.tag()) || !log.keeps_rules() {
+                if ![2, 3, 28, 65].contains(&call.tag()) || !log.keeps_rules() {
                     continue;
                 }
                 assert!(desk.log.keeps_rules() && desk.log.closed >= log.closed);
@@ -243,7 +266,7 @@ mod tests {
     /// it can give (rule 12.4).
     #[test]
     fn every_refusal_is_frequent() {
-        let expected: [(u8, &[&str]); 27] = [
+        let expected: [(u8, &[&str]); 31] = [
             (1, &["0", "8"]),
             (2, &["0", "1", "2", "3", "16", "4", "5"]),
             (3, &["0", "1", "16", "6"]),
@@ -271,15 +294,15 @@ mod tests {
             (26, &["0", "7"]),
             (27, &["0", "7"]),
             (28, &["0", "1", "9"]),
+            (64, &["0", "8", "17", "2", "3"]),
+            (65, &["0", "1", "17", "2", "3", "16", "4", "5"]),
+            (66, &["0", "13"]),
+            (67, &["0", "14"]),
         ];
-        let mut seen: BTreeMap<(u8, String), u64> = BTreeMap::new();
-        let mut generator = Generator::new(1);
-        for _ in 0..700 {
-            for (call, answer) in generator.next_block().calls {
-                let number = answer.split(' ').next().unwrap().to_string();
-                *seen.entry((call.tag(), number)).or_default() += 1;
-            }
-        }
+        let seen = seen(|_, call, answer| {
+            let number = answer.split(' ').next().unwrap().to_string();
+            vec![(call.tag(), number)]
+        });
         for (tag, numbers) in expected {
             for number in numbers {
                 let times = seen.get(&(tag, number.to_string())).copied().unwrap_or(0);

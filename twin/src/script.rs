@@ -5,6 +5,7 @@ use std::io::{self, Read};
 use crate::model::assessment::Row;
 use crate::model::book::Book;
 use crate::model::log::{Slot, SLOTS};
+use crate::model::plan::Plan;
 use crate::model::settlement::Period;
 use crate::model::year::{Line, Year, LINES};
 
@@ -88,6 +89,10 @@ pub enum Call {
     ShowBook,
     ShowWrite { k: u8, room: u16 },
     ShowSheet { room: u16 },
+    ListPlan { regime_end: u32, plan: Plan },
+    EnterPlan { plan: Plan },
+    ReadPlan { bytes: Vec<u8> },
+    WritePlan { plan: Plan, room: u32 },
 }
 
 impl Call {
@@ -137,6 +142,10 @@ impl Call {
             Call::ShowBook => 50,
             Call::ShowWrite { .. } => 51,
             Call::ShowSheet { .. } => 52,
+            Call::ListPlan { .. } => 64,
+            Call::EnterPlan { .. } => 65,
+            Call::ReadPlan { .. } => 66,
+            Call::WritePlan { .. } => 67,
         }
     }
 
@@ -202,7 +211,9 @@ impl Call {
                 value.u16(*room);
                 value.0.extend(bytes);
             }
-            Call::Print { bytes } | Call::Keep { bytes } => value.0.extend(bytes),
+            Call::Print { bytes } | Call::Keep { bytes } | Call::ReadPlan { bytes } => {
+                value.0.extend(bytes)
+            }
             Call::RefileKept { room } | Call::WriteSheet { room } => value.u32(*room),
             Call::ReadSheet { regime_end, bytes } => {
                 value.u32(*regime_end);
@@ -231,6 +242,15 @@ impl Call {
                 value.u8(line.kind);
                 value.u8(line.currency);
                 value.i64(line.amount);
+            }
+            Call::ListPlan { regime_end, plan } => {
+                value.u32(*regime_end);
+                value.plan(plan);
+            }
+            Call::EnterPlan { plan } => value.plan(plan),
+            Call::WritePlan { plan, room } => {
+                value.plan(plan);
+                value.u32(*room);
             }
         }
     }
@@ -311,6 +331,10 @@ impl Call {
             50 => Call::ShowBook,
             51 => Call::ShowWrite { k: part.k()?, room: part.u16()? },
             52 => Call::ShowSheet { room: part.u16()? },
+            64 => Call::ListPlan { regime_end: part.u32()?, plan: part.plan()? },
+            65 => Call::EnterPlan { plan: part.plan()? },
+            66 => Call::ReadPlan { bytes: part.rest() },
+            67 => Call::WritePlan { plan: part.plan()?, room: part.u32()? },
             _ => return None,
         };
         part.0.is_empty().then_some(call)
@@ -345,6 +369,14 @@ impl Value {
         self.u32(outage.start);
         self.u32(outage.end);
         self.u16(outage.mw);
+    }
+
+    fn plan(&mut self, plan: &Plan) {
+        self.u32(plan.start);
+        self.u32(plan.length);
+        for number in [plan.step, plan.count, plan.mw] {
+            self.u16(number);
+        }
     }
 
     fn row(&mut self, row: &Row) {
@@ -424,6 +456,11 @@ impl Parts<'_> {
 
     fn outage(&mut self) -> Option<Slot> {
         Some(Slot { start: self.u32()?, end: self.u32()?, mw: self.u16()? })
+    }
+
+    fn plan(&mut self) -> Option<Plan> {
+        let (start, length) = (self.u32()?, self.u32()?);
+        Some(Plan { start, length, step: self.u16()?, count: self.u16()?, mw: self.u16()? })
     }
 
     fn row(&mut self) -> Option<Row> {
@@ -542,5 +579,27 @@ mod tests {
         assert_eq!(Call::decode(32, &[1, 144, 0, 0, 0, 0, 0, 0, 0, 0, 0, 0]), None);
         assert!(Call::decode(32, &[1, 143, 0, 0, 0, 0, 0, 0, 0, 0, 0, 0]).is_some());
         assert_eq!(Call::decode(36, &[0, 64, 0, 0, 0, 0, 0, 0, 0, 0, 0, 0]), None);
+    }
+
+    #[test]
+    fn fields_of_plans() {
+        let plan = Plan { start: 0x0102_0304, length: 5, step: 6, count: 7, mw: 0x0809 };
+        let value = [1, 2, 3, 4, 0, 0, 0, 5, 0, 6, 0, 7, 8, 9];
+        let with = |before: &[u8], after: &[u8]| [before, &value, after].concat();
+        assert_eq!(Call::decode(65, &value), Some(Call::EnterPlan { plan }));
+        assert_eq!(Call::decode(65, &value[1..]), None);
+        assert_eq!(Call::decode(65, &with(&[], &[0])), None);
+        let listed = Call::ListPlan { regime_end: 258, plan };
+        assert_eq!(Call::decode(64, &with(&[0, 0, 1, 2], &[])), Some(listed));
+        assert_eq!(Call::decode(64, &with(&[0, 0, 1], &[])), None);
+        let written = Call::WritePlan { plan, room: 258 };
+        assert_eq!(Call::decode(67, &with(&[], &[0, 0, 1, 2])), Some(written));
+        assert_eq!(Call::decode(67, &with(&[], &[0, 0])), None);
+        for bytes in [vec![], vec![30], vec![0; 8_193]] {
+            assert_eq!(Call::decode(66, &bytes), Some(Call::ReadPlan { bytes }));
+        }
+        for unknown in [63, 68] {
+            assert_eq!(Call::decode(unknown, &value), None);
+        }
     }
 }

@@ -5,6 +5,7 @@ use crate::model::book::Book;
 use crate::model::calendar::{day_number, minute_of_date};
 use crate::model::dates::minute_text;
 use crate::model::log::{Slot, SLOTS};
+use crate::model::plan::Plan;
 use crate::model::settlement::Period;
 use crate::model::sheet::{joined, Piece};
 use crate::model::year::{Line, LINES};
@@ -57,6 +58,10 @@ pub fn word(tag: u8) -> &'static str {
         50 => "show-book",
         51 => "show-write",
         52 => "show-sheet",
+        64 => "list-plan",
+        65 => "enter-plan",
+        66 => "read-plan",
+        67 => "write-plan",
         _ => "?",
     }
 }
@@ -69,6 +74,15 @@ pub fn time_words(minute: i128) -> String {
 
 fn hexadecimal(bytes: &[u8]) -> String {
     bytes.iter().map(|byte| format!("{byte:02x}")).collect()
+}
+
+/// A byte as often as `00x8193` says; any other word as it is.
+fn repeated(word: &str) -> String {
+    let times = |count: &str| digits(count).filter(|&count| count <= 65_535);
+    match word.split_once('x').map(|(byte, count)| (byte, times(count))) {
+        Some((byte, Some(count))) if byte.len() == 2 => byte.repeat(count as usize),
+        _ => word.to_string(),
+    }
 }
 
 /// The words still to be read on a line.
@@ -166,6 +180,14 @@ impl<'a> Words<'a> {
         })
     }
 
+    fn plan(&mut self) -> Result<Plan, String> {
+        let start = self.minute("the first start")?;
+        let length = self.number("the length")?;
+        let step = self.number("the step")?;
+        let count = self.number("how many")?;
+        Ok(Plan { start, length, step, count, mw: self.number("the MW")? })
+    }
+
     fn row(&mut self) -> Result<Row, String> {
         Ok(Row {
             index: self.number("the index")?,
@@ -212,7 +234,7 @@ impl<'a> Words<'a> {
 
     /// The rest of the line as bytes.
     fn bytes(&mut self) -> Result<Vec<u8>, String> {
-        let digits: String = self.left.by_ref().collect();
+        let digits: String = self.left.by_ref().map(repeated).collect();
         if digits.len() % 2 != 0 || !digits.bytes().all(|digit| digit.is_ascii_hexdigit()) {
             return Err("the bytes are not in pairs of hexadecimal digits".to_string());
         }
@@ -400,6 +422,12 @@ fn parse_call(words: &mut Words) -> Result<Call, String> {
         "show-book" => Call::ShowBook,
         "show-write" => Call::ShowWrite { k: words.k()?, room: words.number("the room")? },
         "show-sheet" => Call::ShowSheet { room: words.number("the room")? },
+        "list-plan" => {
+            Call::ListPlan { regime_end: words.minute("the regime end")?, plan: words.plan()? }
+        }
+        "enter-plan" => Call::EnterPlan { plan: words.plan()? },
+        "read-plan" => Call::ReadPlan { bytes: words.bytes()? },
+        "write-plan" => Call::WritePlan { plan: words.plan()?, room: words.number("the room")? },
         other => return Err(format!("no such call: {other}")),
     })
 }
@@ -407,6 +435,11 @@ fn parse_call(words: &mut Words) -> Result<Call, String> {
 fn outage_words(outage: &Slot) -> String {
     let (start, end) = (time_words(outage.start as i128), time_words(outage.end as i128));
     format!("{start} {end} {}", outage.mw)
+}
+
+fn plan_words(plan: &Plan) -> String {
+    let start = time_words(plan.start as i128);
+    format!("{start} {} {} {} {}", plan.length, plan.step, plan.count, plan.mw)
 }
 
 fn days_words(earlier: &Period, later: &Period) -> String {
@@ -447,7 +480,9 @@ pub fn call_words(call: &Call) -> String {
         Call::Read { k, bytes } => format!("{k} {}", hexadecimal(bytes)),
         Call::Write { k, room } | Call::ShowWrite { k, room } => format!("{k} {room}"),
         Call::Refile { room, bytes } => format!("{room} {}", hexadecimal(bytes)),
-        Call::Print { bytes } | Call::Keep { bytes } => hexadecimal(bytes),
+        Call::Print { bytes } | Call::Keep { bytes } | Call::ReadPlan { bytes } => {
+            hexadecimal(bytes)
+        }
         Call::RefileKept { room } | Call::WriteSheet { room } => room.to_string(),
         Call::ReadSheet { regime_end, bytes } => {
             format!("{} {}", time(regime_end), hexadecimal(bytes))
@@ -478,6 +513,11 @@ pub fn call_words(call: &Call) -> String {
         Call::SetLine { k, slot, line } => {
             format!("{k} {slot} {} {} {}", line.kind, line.currency, line.amount)
         }
+        Call::ListPlan { regime_end, plan } => {
+            format!("{} {}", time(regime_end), plan_words(plan))
+        }
+        Call::EnterPlan { plan } => plan_words(plan),
+        Call::WritePlan { plan, room } => format!("{} {room}", plan_words(plan)),
     };
     format!("{} {rest}", word(call.tag())).trim_end().to_string()
 }
@@ -514,6 +554,9 @@ mod tests {
         assert!(parse_line("fill-lines 0 65 1 0 5").is_err());
         assert_eq!(parse_line("fill-kept 65536 7").map(|calls| calls.len()), Ok(2));
         assert!(parse_line("fill-kept 262145 7").is_err());
+        assert_eq!(parse_line("keep 14 00x3 0ax2"), parse_line("keep 140000000a0a"));
+        assert!(parse_line("keep 00x").is_err() && parse_line("keep 0x2").is_err());
+        assert!(parse_line("keep 00x65536").is_err());
         assert_eq!(
             parse_line("keep-piece continued 2019-02-01 00:00 1441 256"),
             parse_line("keep 15000a000005a0000005a10100"),
@@ -524,6 +567,24 @@ mod tests {
         );
         assert_eq!(parse_line("fill-pieces fresh 5042 0 1 1 1").map(|calls| calls.len()), Ok(2));
         assert_eq!(parse_line(""), Ok(vec![]));
+    }
+
+    #[test]
+    fn plans_in_words() {
+        let plan = Plan { start: 1_410, length: 120, step: 14, count: 27, mw: 500 };
+        let dated = "2019-01-31 23:30 120 14 27 500";
+        for words in [dated, "1410 120 14 27 500"] {
+            let entered = parse_line(&format!("enter-plan {words}"));
+            assert_eq!(entered, Ok(vec![Call::EnterPlan { plan }]));
+            let listed = parse_line(&format!("list-plan 2045-01-01 00:00 {words}"));
+            assert_eq!(listed, Ok(vec![Call::ListPlan { regime_end: 13_632_480, plan }]));
+            let written = parse_line(&format!("write-plan {words} 17"));
+            assert_eq!(written, Ok(vec![Call::WritePlan { plan, room: 17 }]));
+        }
+        assert_eq!(call_words(&Call::EnterPlan { plan }), format!("enter-plan {dated}"));
+        let bytes = vec![30, 0, 14];
+        assert_eq!(parse_line("read-plan 1e000e"), Ok(vec![Call::ReadPlan { bytes }]));
+        assert_eq!(parse_line("read-plan"), Ok(vec![Call::ReadPlan { bytes: vec![] }]));
     }
 
     #[test]
@@ -550,6 +611,13 @@ mod tests {
             "set-line 0 64 1 0 5",
             "set-year 0 1 1 1 1 1 1 2 0 0",
             "gap 1900-02-28 61 61 61",
+            "enter-plan 0 1 1 1",
+            "enter-plan 0 1 1 1 1 1",
+            "enter-plan 0 1 65536 1 1",
+            "list-plan 0 1 1 1 1",
+            "read-plan 123",
+            "write-plan 0 1 1 1 1",
+            "write-plan 0 1 1 1 1 4294967296",
         ] {
             assert!(parse_line(line).is_err(), "{line}");
         }

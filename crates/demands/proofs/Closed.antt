@@ -25,13 +25,18 @@ use Rattle.outage.specs.declared.Log.{Log}
 use Rattle.outage.specs.declared.Logged.{Logged}
 use Rattle.outage.specs.declared.losing.LostEnergy.{LostEnergy}
 use Rattle.outage.specs.Log.{slots, validLog, logEntries, logWith, closedAt, lostEnergy}
-use Rattle.outage.specs.Calls.{enterRows, cancelRows, closeRows, LostGives}
+use Rattle.outage.specs.Calls.{enterRows, enterLog, cancelRows, closeRows, LostGives}
 use Rattle.outage.proofs.LogHolding.{entries-with}
 use Rattle.outage.proofs.Only.{only-lost}
-use Rattle.demands.specs.Log.{Call, entering, cancelling, closing, Promised, Turn, logOf, RanFrom, logAfter, Event, happened}
+use Rattle.plan.specs.declared.Plan.{Plan}
+use Rattle.plan.specs.Plan.{outagesOf}
+use Rattle.plan.proofs.OneByOne.{through-keeps}
+use Rattle.plan_entering.specs.Calls.{enterPlanRows, plannedLog}
+use Rattle.plan_entering.proofs.Accepted.{plan-through, plan-back}
+use Rattle.demands.specs.Log.{Call, entering, cancelling, closing, planning, PlanPromised, Promised, Turn, logOf, RanFrom, logAfter, Event, happened}
 use Rattle.demands.specs.Closed.{ClosedStays}
 use Rattle.demands.proofs.Runs.{run-keeps}
-use Rattle.demands.proofs.Keeping.{Sound, entered-sound, cancelled-sound, closed-sound, closes-forward}
+use Rattle.outage.proofs.Sound.{Sound, entered-sound, cancelled-sound, closed-sound, closes-forward}
 
 -- a log as it was, and one that stands later
 record Stays (log now : Log) : Type 0 where
@@ -95,10 +100,25 @@ module _ (log now : Log) (k : Stays log now) where
         stay = k .stay;
       }
 
+-- ---- a plan's outages one by one
+outage-stays : (log now : Log) → Stays log now → (e : Entry) → firstApplicable (enterRows now e) ≡ 0 → Stays log (enterLog now e)
+outage-stays log now k e n = stays-by log now k (enterRows now e) (logWith now (putInOrder e (logEntries now))) (enterLog now e) refl (entered log now k e)
+
+module _ (log now : Log) (k : Stays log now) where
+  planned : (p : Plan) (r : Logged) → PlanPromised now p r → Stays log (r .log)
+  planned p r g = by (firstApplicable (enterPlanRows now p)) refl
+    where
+      by : (n : ℕ) → firstApplicable (enterPlanRows now p) ≡ n → Stays log (r .log)
+      by zero h =
+          subst (Stays log) (sym (g .gives .2))
+          (through-keeps enterRows enterLog (λ (l : Log) (es : List Entry). Stays log l) (λ l es e k n. outage-stays log l k e n) 1 now (plannedLog now p) [] (outagesOf p) k (plan-through now p h (k .rows)))
+      by (suc n) h = subst (Stays log) (sym (g .gives .2 ∙ plan-back now p (λ z. suc-ne-zero n (sym h ∙ z)))) k
+
   call-stays : (call : Call) (r : Logged) → Promised now call r → Stays log (r .log)
-  call-stays (entering e) r g = stays-by (enterRows now e) (logWith now (putInOrder e (logEntries now))) (r .log) (g .1) (entered e)
-  call-stays (cancelling key) r g = stays-by (cancelRows now key) (logWith now (without key (logEntries now))) (r .log) (g .1) (cancelled key)
-  call-stays (closing minute) r g = stays-by (closeRows now minute) (closedAt now minute) (r .log) (g .1) (closed minute)
+  call-stays (entering e) r g = stays-by log now k (enterRows now e) (logWith now (putInOrder e (logEntries now))) (r .log) (g .1) (entered log now k e)
+  call-stays (cancelling key) r g = stays-by log now k (cancelRows now key) (logWith now (without key (logEntries now))) (r .log) (g .1) (cancelled log now k key)
+  call-stays (closing minute) r g = stays-by log now k (closeRows now minute) (closedAt now minute) (r .log) (g .1) (closed log now k minute)
+  call-stays (planning p) r g = planned p r g
 
 -- ---- any run
 run-stays : (log : Log) → length (log .entries) ≡ slots → (turns : List Turn) → RanFrom log turns → Stays log (logAfter log turns)

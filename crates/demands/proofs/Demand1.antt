@@ -1,5 +1,5 @@
 -- Demand 1 holds. Assumes nothing.
-use mathlib.Core.Path.{_≡_, refl, sym, _∙_}
+use mathlib.Core.Path.{_≡_, refl, sym, ap, _∙_}
 use mathlib.Core.Bool.{Bool, true, false, cond}
 use mathlib.Core.List.{List, [], _++_}
 use Prim.Native.Nat.{ℕ, _≤_}
@@ -7,19 +7,30 @@ use native.Mathlib.Nat.{not-suc-le-zero}
 use native.Mathlib.Omega.{arith}
 use lib.IntN.{pos, natAbs, _-ℤ_}
 use lib.ListN.{length, drop}
+use Rattle.lists.specs.Lists.{padded}
 use Rattle.lists.proofs.Tests.{not-no}
 use Rattle.refusals.specs.declared.Refusal.{Refusal}
-use Rattle.refusals.specs.declared.Refusal.the-variants.{BrokenLog, BadSpan, BadPower, SharedMinute, FullLog, NoSuchStart, BadStretch, BadBook, BadYear, FloorAboveCap, TooLarge, BadPeriod, Malformed, NoRoom, BadPiece, ClosedTime}
+use Rattle.refusals.specs.declared.Refusal.the-variants.{BrokenLog, BadSpan, BadPower, SharedMinute, FullLog, NoSuchStart, BadStretch, BadBook, BadYear, FloorAboveCap, TooLarge, BadPeriod, Malformed, NoRoom, BadPiece, ClosedTime, BadPlan}
 use Rattle.refusals.specs.Refusals.{firstApplicable, refusalNumber, answerNumber, writtenNumber, lengthFigure}
 use Rattle.refusals.proofs.Laws.{same-refusal, all-clear, beside-refused}
 use Rattle.calendar.specs.Years.{yearStart, yearEnd, minutesRows, minutesNumber, firstFigure, endFigure}
 use Rattle.calendar.proofs.Only.{one-minutes}
+use Rattle.entries.specs.declared.Entry.{Entry}
 use Rattle.entries.specs.Row.{putInOrder, without}
 use Rattle.outage.specs.declared.Log.{Log}
-use Rattle.outage.specs.Log.{goodRegimeEnd, lastRegimeEnd, logEntries, logWith, closedAt, logHolding, lostEnergy}
+use Rattle.outage.specs.Log.{goodRegimeEnd, lastRegimeEnd, zeroEntry, logEntries, logWith, closedAt, logHolding, lostEnergy}
 use Rattle.outage.specs.Calls.{emptyLog, emptyRows, enterRows, cancelRows, closeRows, lostRows, lostNumber, lostFigure}
 use Rattle.outage.proofs.Only.{one-empty, one-enter, one-cancel, one-close, one-lost}
 use Rattle.outage.proofs.Only as logs
+use Rattle.plan.specs.declared.Plan.{Plan}
+use Rattle.plan.specs.Plan.{mostOutages, goodPlan, noPlan}
+use Rattle.plan.specs.Calls.{Outcome, through, failed, listing, listRows, listedOutages}
+use Rattle.plan.proofs.Only.{one-list}
+use Rattle.plan_entering.proofs.Accepted.{plan-back}
+use Rattle.plan_entering.proofs.Only.{one-enter-plan}
+use Rattle.plan_message.specs.Form.{planBytes, planReading}
+use Rattle.plan_message.specs.Calls.{writePlanRows}
+use Rattle.plan_message.proofs.Only.{one-read-plan, one-write-plan}
 use Rattle.year.specs.Year.{freshYear}
 use Rattle.year.proofs.Only as years
 use Rattle.levels.specs.Availability.{availabilityIn, availabilityRows, availabilityNumber, availabilityFigure, meetsTarget, targetNumber, targetMet}
@@ -37,14 +48,14 @@ use Rattle.settlement.specs.Growth.{growthOf, paidOf}
 use Rattle.settlement.specs.Calls.{gapRows, gapNumber, gapFigure, growthRows, growthNumber, growthFigure, payRows, payNumber, payFigure, settleRows}
 use Rattle.settlement.proofs.Only.{one-gap, one-growth, one-pay, one-settle, one-reconcile}
 use Rattle.text.specs.Text.{textOf}
-use Rattle.codec.specs.Message as Sheet
+use Rattle.codec.specs.Message as Message
 use Rattle.sheet_printout.specs.Dates.{momentOf, outageLine}
 use Rattle.sheet_printout.specs.Printout.{printMinuteRows, printOutageRows}
 use Rattle.sheet_printout.proofs.Only.{one-print-minute, one-print-outage}
 use Rattle.sheet_format.specs.Sheet.{sheetReading, readSheetRows, sheetPlace, sheetLog, sheetOf, writeSheetRows}
 use Rattle.sheet_reading.proofs.Only.{one-read-sheet}
 use Rattle.sheet_writing.proofs.Only.{one-write-sheet}
-use Rattle.return_format.specs.Return.{Reading, whole, refused, readingOf, isRefused, placeIn, yearIn, returnOf, writeRows}
+use Rattle.return_format.specs.Return.{readingOf, returnOf, writeRows}
 use Rattle.return_reading.proofs.Only.{one-read}
 use Rattle.return_writing.proofs.Only.{one-write}
 use Rattle.return_refiling.specs.Refiled.{refileRows}
@@ -53,7 +64,7 @@ use Rattle.return_printout.proofs.Only.{one-print}
 use Rattle.demands.specs.Demand1.{Demand1}
 use Rattle.demands.proofs.Sheets.{clear-whole}
 
-numbers : (why : Refusal) → (1 ≤ refusalNumber why) × (refusalNumber why ≤ 16)
+numbers : (why : Refusal) → (1 ≤ refusalNumber why) × (refusalNumber why ≤ 17)
 numbers BrokenLog = omega arith
 numbers BadSpan = omega arith
 numbers BadPower = omega arith
@@ -70,24 +81,36 @@ numbers Malformed = omega arith
 numbers NoRoom = omega arith
 numbers BadPiece = omega arith
 numbers ClosedTime = omega arith
+numbers BadPlan = omega arith
 
--- ---- a reading, by what it found
-refused-year : (x : Reading) (n : ℕ) → n ≡ cond (isRefused x) 13 0 → (n ≡ 0 → ⊥) → yearIn x ≡ freshYear
-refused-year (whole y) n e z = absurd (z e)
-refused-year (refused why place) n e z = refl
+-- ---- a message, by what was found
+module _ {M : Type 0} (none : M) where
+  refused-value : (x : Message.Reading M) (n : ℕ) → n ≡ cond (Message.isRefused x) 13 0 → (n ≡ 0 → ⊥) → Message.valueIn none x ≡ none
+  refused-value (Message.whole y) n e z = absurd (z e)
+  refused-value (Message.refused why place) n e z = refl
 
-accepted-place : (x : Reading) (n : ℕ) → n ≡ cond (isRefused x) 13 0 → n ≡ 0 → placeIn x ≡ 0
-accepted-place (whole y) n e z = refl
-accepted-place (refused why place) n e z = absurd (not-suc-le-zero {n = 0} (omega arith))
+accepted-place : {M : Type 0} (x : Message.Reading M) (n : ℕ) → n ≡ cond (Message.isRefused x) 13 0 → n ≡ 0 → Message.placeIn x ≡ 0
+accepted-place (Message.whole y) n e z = refl
+accepted-place (Message.refused why place) n e z = absurd (not-suc-le-zero {n = 0} (omega arith))
+
+-- ---- a list, by what was found
+refused-list : (re : ℕ) (p : Plan) → (firstApplicable (listRows re p) ≡ 0 → ⊥) → listedOutages re p ≡ []
+refused-list re p z = by (goodRegimeEnd re) refl (goodPlan p) refl (listing re p) refl
+  where
+    by : (b : Bool) → goodRegimeEnd re ≡ b → (c : Bool) → goodPlan p ≡ c → (o : Outcome (List Entry)) → listing re p ≡ o → listedOutages re p ≡ []
+    by false g c h o e = rw g refl
+    by true g false h o e = rw (g, h) refl
+    by true g true h (through es) e = absurd (z (rw (g, h, e) refl))
+    by true g true h (failed why outage) e = rw (g, h, e) refl
 
 -- ---- a sheet, by what was found
 refused-log : (re : ℕ) (bs : List ℕ) (n : ℕ) → n ≡ firstApplicable (readSheetRows re bs) → (n ≡ 0 → ⊥) → sheetLog re bs ≡ emptyLog re
 refused-log re bs n e z = by (goodRegimeEnd re) refl (sheetReading re bs) refl
   where
-    by : (b : Bool) → goodRegimeEnd re ≡ b → (r : Sheet.Reading Log) → sheetReading re bs ≡ r → sheetLog re bs ≡ emptyLog re
+    by : (b : Bool) → goodRegimeEnd re ≡ b → (r : Message.Reading Log) → sheetReading re bs ≡ r → sheetLog re bs ≡ emptyLog re
     by false g r h = rw g refl
-    by true g (Sheet.whole log) h = absurd (z (e ∙ rw (g, h) refl))
-    by true g (Sheet.refused why place) h = rw (g, h) refl
+    by true g (Message.whole log) h = absurd (z (e ∙ rw (g, h) refl))
+    by true g (Message.refused why place) h = rw (g, h) refl
 
 whole-place : (re : ℕ) (bs : List ℕ) → firstApplicable (readSheetRows re bs) ≡ 0 → sheetPlace re bs ≡ 0
 whole-place re bs e =
@@ -101,6 +124,8 @@ demand-1 = record {
   enter = one-enter;
   cancel = one-cancel;
   close = one-close;
+  list = one-list;
+  enter-plan = one-enter-plan;
   lost = one-lost;
   minutes = one-minutes;
   check-year = years.one-check;
@@ -122,11 +147,15 @@ demand-1 = record {
   print = one-print;
   read-sheet = one-read-sheet;
   write-sheet = one-write-sheet;
+  read-plan = one-read-plan;
+  write-plan = one-write-plan;
   print-minute = one-print-minute;
   print-outage = one-print-outage;
   enter-checks = λ l e r g v. g .0 ∙ rw v refl;
   cancel-checks = λ l key r g v. g .0 ∙ rw v refl;
   close-checks = λ l m r g v. g .0 ∙ rw v refl;
+  list-checks = λ re p r g b. g .0 ∙ rw b refl;
+  enter-plan-checks = λ l p r g. (λ v. g .0 ∙ rw v refl, λ v b. g .0 ∙ rw (v, b) refl);
   lost-checks = λ l a b r g v. g .0 ∙ rw v refl;
   availability-checks = λ book l number r g. (λ b. g .0 ∙ rw b refl, λ b v. g .0 ∙ rw (b, v) refl);
   target-checks = λ book l number r g. (λ b. g .0 ∙ rw b refl, λ b v. g .0 ∙ rw (b, v) refl);
@@ -143,6 +172,7 @@ demand-1 = record {
   enter-refused = λ l e r g n. beside-refused (enterRows l e) (answerNumber (r .answer)) (r .log) (logWith l (putInOrder e (logEntries l))) l (g .0) (g .1) n;
   cancel-refused = λ l key r g n. beside-refused (cancelRows l key) (answerNumber (r .answer)) (r .log) (logWith l (without key (logEntries l))) l (g .0) (g .1) n;
   close-refused = λ l m r g n. beside-refused (closeRows l m) (answerNumber (r .answer)) (r .log) (closedAt l m) l (g .0) (g .1) n;
+  enter-plan-refused = λ l p r g n. g .2 ∙ plan-back l p (λ z. n (g .0 ∙ z));
   empty-refused = λ regimeEnd r g n. beside-refused (emptyRows regimeEnd) (answerNumber (r .answer)) (r .log) (logHolding regimeEnd []) (logHolding lastRegimeEnd []) (g .0) (g .1) n;
   write-refused = λ y out r o g n. (
     beside-refused (writeRows y (length out)) (writtenNumber r) o (returnOf y ++ drop (length (returnOf y)) out) out (g .0) (g .2) n,
@@ -156,6 +186,10 @@ demand-1 = record {
   write-sheet-refused = λ l out r o g n. (
     beside-refused (writeSheetRows l (length out)) (writtenNumber r) o (sheetOf l ++ drop (length (sheetOf l)) out) out (g .0) (g .2) n,
     beside-refused (writeSheetRows l (length out)) (writtenNumber r) (lengthFigure r) (length (sheetOf l)) 0 (g .0) (g .1) n,
+  );
+  write-plan-refused = λ p out r o g n. (
+    beside-refused (writePlanRows p (length out)) (writtenNumber r) o (planBytes p ++ drop (length (planBytes p)) out) out (g .0) (g .2) n,
+    beside-refused (writePlanRows p (length out)) (writtenNumber r) (lengthFigure r) (length (planBytes p)) 0 (g .0) (g .1) n,
   );
   lost-refused = λ l a b r g n. beside-refused (lostRows l a b) (lostNumber r) (lostFigure r) (lostEnergy a b (logEntries l)) 0 (g .0) (g .1) n;
   minutes-refused = λ number regimeEnd r g n. (
@@ -177,9 +211,14 @@ demand-1 = record {
   pay-refused = λ amount k r g n. beside-refused (payRows amount k) (payNumber r) (payFigure r) (paidOf amount k) (pos 0) (g .0) (g .1) n;
   settle-refused = λ adjustment a b r g n. beside-refused (settleRows adjustment a b) (payNumber r) (payFigure r) (paidOf adjustment (natAbs (hundredths (daySum a) (daySum b)))) (pos 0) (g .0) (g .1) n;
   reconcile-refused = λ final provisional a b r g n. beside-refused (settleRows (final -ℤ provisional) a b) (payNumber r) (payFigure r) (paidOf (final -ℤ provisional) (natAbs (hundredths (daySum a) (daySum b)))) (pos 0) (g .0) (g .1) n;
-  read-refused = λ bs r g n. g .2 ∙ refused-year (readingOf bs) (answerNumber (r .answer)) (g .0) n;
+  read-refused = λ bs r g n. g .2 ∙ refused-value freshYear (readingOf bs) (answerNumber (r .answer)) (g .0) n;
   read-accepted = λ bs r g n. g .1 ∙ accepted-place (readingOf bs) (answerNumber (r .answer)) (g .0) n;
   read-sheet-accepted = λ re bs r g n. g .1 ∙ whole-place re bs (sym (g .0) ∙ n);
+  list-refused = λ re p r g n.
+      let none = refused-list re p (λ z. n (g .0 ∙ z)) in
+      (g .3 ∙ ap length none, g .2 ∙ ap (padded mostOutages zeroEntry) none);
+  read-plan-refused = λ bs r g n. g .2 ∙ refused-value noPlan (planReading bs) (answerNumber (r .answer)) (g .0) n;
+  read-plan-accepted = λ bs r g n. g .1 ∙ accepted-place (planReading bs) (answerNumber (r .answer)) (g .0) n;
   print-minute-refused = λ minute r g n. beside-refused (printMinuteRows minute) (answerNumber (r .answer)) (r .text) (textOf (momentOf minute)) (textOf []) (g .0) (g .1) n;
   print-outage-refused = λ e r g n. beside-refused (printOutageRows e) (answerNumber (r .answer)) (r .text) (textOf (outageLine e)) (textOf []) (g .0) (g .1) n;
 }

@@ -75,6 +75,7 @@ use Rattle.return_refiling.specs.Refiled.{refileRows, RefileGives}
 use Rattle.demands.specs.Demand2.{Carried, NearSums, Demand2}
 use Rattle.demands.proofs.Lost.{first-is, end-is, year-lost, year-most}
 use Rattle.demands.proofs.Returns.{written-reads-back, read-writes-back}
+use Rattle.demands.proofs.PlanMessages.{plan-reads-back, plan-is, is-read, plan-writes-back, plan-refused-at, plan-one-of-three, plan-longer-is, plan-alone}
 use Rattle.demands.proofs.Sheets.{sheet-is, sheet-reads-back, sheet-writes-back, sheet-refused-at, sheet-not-longer, sheet-cut-same}
 
 -- ---- levels
@@ -282,6 +283,13 @@ demand-2 = record {
   sheet-place = sheet-refused-at;
   sheet-longest = sheet-not-longer;
   sheet-cut = sheet-cut-same;
+  plan-written-read = plan-reads-back;
+  plan-read-written = plan-writes-back;
+  is-plan = λ bs b t g. (plan-is bs b t g, is-read bs b t g);
+  plan-same-bytes = plan-alone;
+  plan-place = plan-refused-at;
+  plan-places = plan-one-of-three;
+  plan-longer = plan-longer-is;
   date = λ minute r g n. (
     beside-accepted (printMinuteRows minute) (answerNumber (r .answer)) (r .text) (textOf (momentOf minute)) (textOf []) (g .0) (g .1) n,
     right-date minute (ltb-false lastRegimeEnd minute (all-clear (printMinuteRows minute) (sym (g .0) ∙ n) .0)),

@@ -1,6 +1,5 @@
 -- The demands, each in a file of its own, the laws that they rest on, and the marked figures.
 pub mod Runs
-pub mod Keeping
 pub mod NotCancelled
 pub mod Slots
 pub mod Lost
@@ -11,3 +10,5 @@ pub mod Demand3
 pub mod Closed
 pub mod Figures
 pub mod Sheets
+pub mod Plans
+pub mod PlanMessages

@@ -1,7 +1,7 @@
 -- After any sequence of calls the log holds what its events leave standing. Assumes nothing.
-use mathlib.Core.Path.{_≡_, refl, sym, ap, _∙_}
+use mathlib.Core.Path.{_≡_, refl, sym, ap, subst, _∙_}
 use mathlib.Core.Bool.{Bool, true, false, not, cond, _||_}
-use mathlib.Core.List.{List, [], _∷_, _++_, append-nil}
+use mathlib.Core.List.{List, [], _∷_, _++_, map, append-nil, append-assoc, map-append}
 use Prim.Native.Nat.{ℕ, zero, suc, _+_}
 use native.Mathlib.Omega.{arith}
 use native.Mathlib.Nat.{suc-ne-zero, add-zero}
@@ -19,11 +19,16 @@ use Rattle.entries.specs.Row.{putInOrder, hasKey, without}
 use Rattle.entries.proofs.Keeping.{total-in-order}
 use Rattle.outage.specs.Log.{goodRegimeEnd, lastRegimeEnd, logEntries, logHolding}
 use Rattle.outage.specs.Calls.{EmptyGives, emptyLog, enterRows, enterLog, cancelRows, cancelLog, closeRows, closeLog}
-use Rattle.demands.specs.Log.{Call, entering, cancelling, closing, Promised, Turn, logOf, RanFrom, logAfter, Event, put, takenOut, closedUp, happened, cancelledBy, cancelledSince, notCancelled, closedFrom}
+use Rattle.plan.specs.declared.Plan.{Plan}
+use Rattle.plan.specs.Plan.{outagesOf}
+use Rattle.plan.proofs.OneByOne.{through-keeps}
+use Rattle.plan_entering.specs.Calls.{enterPlanRows, plannedLog}
+use Rattle.plan_entering.proofs.Accepted.{plan-through, plan-back}
+use Rattle.demands.specs.Log.{Call, entering, cancelling, closing, planning, Promised, Turn, logOf, RanFrom, logAfter, Event, put, takenOut, closedUp, happened, cancelledBy, cancelledSince, notCancelled, closedFrom}
 use Rattle.outage.proofs.LogHolding.{entries-with, log-holding-valid}
 use Rattle.demands.specs.Runs.{eventsOf}
 use Rattle.demands.proofs.Runs.{run-keeps}
-use Rattle.demands.proofs.Keeping.{Sound, entered-sound, cancelled-sound, closed-sound}
+use Rattle.outage.proofs.Sound.{Sound, entered-sound, cancelled-sound, closed-sound}
 
 -- ---- one event more
 since-more : (e : Entry) (since : List Event) (event : Event) → cancelledSince e (since ++ event ∷ []) ≡ (cancelledSince e since || cancelledBy e event)
@@ -139,15 +144,36 @@ module _ (regimeEnd : ℕ) (log : Log) (before : List Event) (k : Agrees regimeE
       }
   closed-by m (suc n) h = rw (not-done (firstApplicable (closeRows log m)) n h) nothing-done
 
+-- ---- a plan puts its outages in one by one
+module _ (regimeEnd : ℕ) (before : List Event) where
+  abbrev AgreesWith : Log → List Entry → Type 0
+  AgreesWith log es = Agrees regimeEnd log (before ++ map put es)
+
+  outage-in : (log : Log) (es : List Entry) (e : Entry) → AgreesWith log es → firstApplicable (enterRows log e) ≡ 0 → AgreesWith (enterLog log e) (es ++ (e ∷ []))
+  outage-in log es e k n =
+      let i : before ++ map put (es ++ (e ∷ [])) ≡ (before ++ map put es) ++ (put e ∷ []) = ap (λ (l : List Event). before ++ l) (map-append put es (e ∷ [])) ∙ sym (append-assoc before (map put es) (put e ∷ [])) in
+      rw i
+      (subst (λ (b : Bool). Agrees regimeEnd (enterLog log e) ((before ++ map put es) ++ cond b (put e ∷ []) [])) (eq-eqb (firstApplicable (enterRows log e)) 0 n)
+      (entered-by regimeEnd log (before ++ map put es) k e 0 n))
+
+module _ (regimeEnd : ℕ) (log : Log) (before : List Event) (k : Agrees regimeEnd log before) where
+  planned-by : (p : Plan) (n : ℕ) → firstApplicable (enterPlanRows log p) ≡ n → Agrees regimeEnd (plannedLog log p) (before ++ cond (eqb (firstApplicable (enterPlanRows log p)) 0) (map put (outagesOf p)) [])
+  planned-by p zero h =
+      rw (eq-eqb (firstApplicable (enterPlanRows log p)) 0 h)
+      (through-keeps enterRows enterLog (AgreesWith regimeEnd before) (outage-in regimeEnd before) 1 log (plannedLog log p) [] (outagesOf p) (rw append-nil k) (plan-through log p h (k .sound .rows)))
+  planned-by p (suc n) h =
+      rw (not-done regimeEnd log before k (firstApplicable (enterPlanRows log p)) n h, plan-back log p (λ z. suc-ne-zero n (sym h ∙ z))) (nothing-done regimeEnd log before k)
+
   -- a result that has the number and the log of a definition stands as the definition does
   as-given : (r : Logged) (n : ℕ) (next : Log) (events : List Event) → (answerNumber (r .answer) ≡ n) × (r .log ≡ next)
       → Agrees regimeEnd next (before ++ cond (eqb n 0) events []) → Agrees regimeEnd (r .log) (before ++ cond (eqb (answerNumber (r .answer)) 0) events [])
   as-given r n next events g s = rw (g .0, g .1) s
 
   pub call-agrees : (call : Call) (r : Logged) → Promised log call r → Agrees regimeEnd (r .log) (before ++ happened (call, r))
-  call-agrees (entering e) r g = as-given r (firstApplicable (enterRows log e)) (enterLog log e) (put e ∷ []) g (entered-by e (firstApplicable (enterRows log e)) refl)
-  call-agrees (cancelling s) r g = as-given r (firstApplicable (cancelRows log s)) (cancelLog log s) (takenOut s ∷ []) g (cancelled-by s (firstApplicable (cancelRows log s)) refl)
-  call-agrees (closing m) r g = as-given r (firstApplicable (closeRows log m)) (closeLog log m) (closedUp m ∷ []) g (closed-by m (firstApplicable (closeRows log m)) refl)
+  call-agrees (entering e) r g = as-given r (firstApplicable (enterRows log e)) (enterLog log e) (put e ∷ []) g (entered-by regimeEnd log before k e (firstApplicable (enterRows log e)) refl)
+  call-agrees (cancelling s) r g = as-given r (firstApplicable (cancelRows log s)) (cancelLog log s) (takenOut s ∷ []) g (cancelled-by regimeEnd log before k s (firstApplicable (cancelRows log s)) refl)
+  call-agrees (closing m) r g = as-given r (firstApplicable (closeRows log m)) (closeLog log m) (closedUp m ∷ []) g (closed-by regimeEnd log before k m (firstApplicable (closeRows log m)) refl)
+  call-agrees (planning p) r g = as-given r (firstApplicable (enterPlanRows log p)) (plannedLog log p) (map put (outagesOf p)) (g .gives .0, g .gives .2) (planned-by p (firstApplicable (enterPlanRows log p)) refl)
 
 -- ---- where every log starts
 abbrev pub endMade : ℕ → ℕ

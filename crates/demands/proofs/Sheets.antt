@@ -147,15 +147,15 @@ module _ (re : ℕ) (bs : List ℕ) (b : Bytes bs) (t : Sheet) (g : SheetGives r
       }
 
 -- ---- and after any calls on it
-ran-more : (log : Log) (a b : List Turn) → RanFrom log a → RanFrom (logAfter log a) b → RanFrom log (a ++ b)
+pub ran-more : (log : Log) (a b : List Turn) → RanFrom log a → RanFrom (logAfter log a) b → RanFrom log (a ++ b)
 ran-more log [] b r q = q
 ran-more log (turn ∷ a) b r q = (r .0, ran-more (logOf (turn .1)) a b (r .1) q)
 
-after-more : (log : Log) (a b : List Turn) → logAfter log (a ++ b) ≡ logAfter (logAfter log a) b
+pub after-more : (log : Log) (a b : List Turn) → logAfter log (a ++ b) ≡ logAfter (logAfter log a) b
 after-more log [] b = refl
 after-more log (turn ∷ a) b = after-more (logOf (turn .1)) a b
 
-events-more : (a b : List Turn) → eventsOf happened (a ++ b) ≡ eventsOf happened a ++ eventsOf happened b
+pub events-more : (a b : List Turn) → eventsOf happened (a ++ b) ≡ eventsOf happened a ++ eventsOf happened b
 events-more [] b = refl
 events-more (turn ∷ a) b = ap (λ (es : List Event). happened turn ++ es) (events-more a b) ∙ sym (append-assoc (happened turn) (eventsOf happened a) (eventsOf happened b))
 

@@ -20,7 +20,7 @@ use Rattle.entries.proofs.Keys.{ahead, keys-ascend}
 use Rattle.entries.proofs.Rows.{Valid, valid-says, zero-is}
 use Rattle.outage.proofs.LogHolding.{log-entries-length}
 use Rattle.demands.specs.Log.{slot}
-use Rattle.demands.proofs.Keeping.{Sound}
+use Rattle.outage.proofs.Sound.{Sound}
 
 module _ (log : Log) (o : Sound log) where
   whole : Valid (rowOf log)

@@ -1,4 +1,4 @@
--- Closed years, beside demand 3: what no run of entries, cancellations and closings alters. Rules 4.9 to 4.11.
+-- Closed years, beside demand 3: what no run of entries, plans, cancellations and closings alters. Rules 4.9 to 4.11.
 use mathlib.Core.Path.{_≡_}
 use Prim.Native.Nat.{ℕ, _<_, _≤_}
 use Rattle.calendar.specs.declared.YearMinutes.{YearMinutes}

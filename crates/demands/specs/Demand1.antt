@@ -6,6 +6,7 @@ use mathlib.Core.Bool.{true, false}
 use mathlib.Core.List.{List, []}
 use Prim.Native.Nat.{ℕ, _≤_}
 use lib.IntN.{ℤ, pos}
+use Rattle.lists.specs.Lists.{padded}
 use Rattle.refusals.specs.declared.Refusal.{Refusal}
 use Rattle.refusals.specs.Refusals.{refusalNumber, answerNumber, writtenNumber, lengthFigure}
 use Rattle.refusals.specs.Answers.{One}
@@ -16,9 +17,15 @@ use Rattle.entries.specs.declared.Key.{Key}
 use Rattle.outage.specs.declared.Log.{Log}
 use Rattle.outage.specs.declared.Logged.{Logged}
 use Rattle.outage.specs.declared.losing.LostEnergy.{LostEnergy}
-use Rattle.outage.specs.Log.{lastRegimeEnd, goodRegimeEnd, validLog, logHolding}
+use Rattle.outage.specs.Log.{lastRegimeEnd, goodRegimeEnd, zeroEntry, validLog, logHolding}
 use Rattle.outage.specs.Calls.{emptyLog, EmptyGives, EnterGives, CancelGives, CloseGives, lostNumber, lostFigure, LostGives}
 use Rattle.outage.specs.Calls as logs
+use Rattle.plan.specs.declared.Plan.{Plan}
+use Rattle.plan.specs.declared.listing.Listed.{Listed}
+use Rattle.plan.specs.Plan.{mostOutages, goodPlan, noPlan}
+use Rattle.plan.specs.Calls.{ListGives}
+use Rattle.plan_entering.specs.declared.Planned.{Planned}
+use Rattle.plan_entering.specs.Calls.{EnterPlanGives}
 use Rattle.year.specs.declared.Year.{Year}
 use Rattle.year.specs.Year.{freshYear, goodYear}
 use Rattle.year.specs.Year as years
@@ -42,6 +49,8 @@ use Rattle.settlement.specs.declared.paying.Payment.{Payment}
 use Rattle.settlement.specs.Calls.{gapNumber, gapFigure, GapGives, growthNumber, growthFigure, GrowthGives, payNumber, payFigure, PayGives, SettleGives, ReconcileGives}
 use Rattle.codec.specs.Theorems.{Bytes}
 use Rattle.text.specs.Text.{textOf}
+use Rattle.plan_message.specs.declared.PlanRead.{PlanRead}
+use Rattle.plan_message.specs.Calls.{ReadPlanGives, WritePlanGives}
 use Rattle.sheet_printout.specs.declared.Printed.{Printed}
 use Rattle.sheet_printout.specs.Printout.{PrintMinuteGives, PrintOutageGives}
 use Rattle.sheet_format.specs.declared.Sheet.{Sheet}
@@ -66,6 +75,8 @@ pub record Demand1 : Type 0 where
   pub enter : (log : Log) (e : Entry) → One (EnterGives log e)
   pub cancel : (log : Log) (key : Key) → One (CancelGives log key)
   pub close : (log : Log) (minute : ℕ) → One (CloseGives log minute)
+  pub list : (regimeEnd : ℕ) (p : Plan) → One (ListGives regimeEnd p)
+  pub enter-plan : (log : Log) (p : Plan) → One (EnterPlanGives log p)
   pub lost : (log : Log) (a b : ℕ) → One (LostGives log a b)
   pub minutes : (number regimeEnd : ℕ) → One (MinutesGives number regimeEnd)
   pub check-year : (y : Year) → One (years.CheckYearGives y)
@@ -87,12 +98,16 @@ pub record Demand1 : Type 0 where
   pub print : (bs : List ℕ) → Bytes bs → One (PrintGives bs)
   pub read-sheet : (regimeEnd : ℕ) (bs : List ℕ) → One (SheetGives regimeEnd bs)
   pub write-sheet : (log : Log) (out : List ℕ) → One (λ (p : Written × List ℕ). WriteSheetGives log out (p .0) (p .1))
+  pub read-plan : (bs : List ℕ) → One (ReadPlanGives bs)
+  pub write-plan : (p : Plan) (out : List ℕ) → One (λ (r : Written × List ℕ). WritePlanGives p out (r .0) (r .1))
   pub print-minute : (minute : ℕ) → One (PrintMinuteGives minute)
   pub print-outage : (e : Entry) → One (PrintOutageGives e)
   -- ---- "It checks what it is handed": a broken log is 1, a bad book 8 before it, a year or amounts out of range 9
   pub enter-checks : (log : Log) (e : Entry) (r : Logged) → EnterGives log e r → validLog log ≡ false → answerNumber (r .answer) ≡ 1
   pub cancel-checks : (log : Log) (key : Key) (r : Logged) → CancelGives log key r → validLog log ≡ false → answerNumber (r .answer) ≡ 1
   pub close-checks : (log : Log) (minute : ℕ) (r : Logged) → CloseGives log minute r → validLog log ≡ false → answerNumber (r .answer) ≡ 1
+  pub list-checks : (regimeEnd : ℕ) (p : Plan) (r : Listed) → ListGives regimeEnd p r → goodRegimeEnd regimeEnd ≡ false → answerNumber (r .answer) ≡ 8
+  pub enter-plan-checks : (log : Log) (p : Plan) (r : Planned) → EnterPlanGives log p r → (validLog log ≡ false → answerNumber (r .answer) ≡ 1) × (validLog log ≡ true → goodPlan p ≡ false → answerNumber (r .answer) ≡ 17)
   pub lost-checks : (log : Log) (a b : ℕ) (r : LostEnergy) → LostGives log a b r → validLog log ≡ false → lostNumber r ≡ 1
   pub availability-checks : (book : Book) (log : Log) (number : ℕ) (r : Availability) → AvailabilityGives book log number r → BookThenLog book log (availabilityNumber r)
   pub target-checks : (book : Book) (log : Log) (number : ℕ) (r : Target) → TargetGives book log number r → BookThenLog book log (targetNumber r)
@@ -104,13 +119,14 @@ pub record Demand1 : Type 0 where
   pub write-checks : (y : Year) (out : List ℕ) (r : Written) (o : List ℕ) → WriteGives y out r o → validLog (y .log) ≡ false → writtenNumber r ≡ 1
   pub read-sheet-checks : (regimeEnd : ℕ) (bs : List ℕ) (r : Sheet) → SheetGives regimeEnd bs r → goodRegimeEnd regimeEnd ≡ false → (answerNumber (r .answer) ≡ 8) × (r .place ≡ 0)
   pub write-sheet-checks : (log : Log) (out : List ℕ) (r : Written) (o : List ℕ) → WriteSheetGives log out r o → validLog log ≡ false → writtenNumber r ≡ 1
-  -- ---- "A refused call has a fixed number": 1 to 16, each for one refusal
-  pub numbered : (why : Refusal) → (1 ≤ refusalNumber why) × (refusalNumber why ≤ 16)
+  -- ---- "A refused call has a fixed number": 1 to 17, each for one refusal
+  pub numbered : (why : Refusal) → (1 ≤ refusalNumber why) × (refusalNumber why ≤ 17)
   pub fixed : (why other : Refusal) → refusalNumber why ≡ refusalNumber other → why ≡ other
   -- ---- "gives back the log it got", to the last slot
   pub enter-refused : (log : Log) (e : Entry) (r : Logged) → EnterGives log e r → (answerNumber (r .answer) ≡ 0 → ⊥) → r .log ≡ log
   pub cancel-refused : (log : Log) (key : Key) (r : Logged) → CancelGives log key r → (answerNumber (r .answer) ≡ 0 → ⊥) → r .log ≡ log
   pub close-refused : (log : Log) (minute : ℕ) (r : Logged) → CloseGives log minute r → (answerNumber (r .answer) ≡ 0 → ⊥) → r .log ≡ log
+  pub enter-plan-refused : (log : Log) (p : Plan) (r : Planned) → EnterPlanGives log p r → (answerNumber (r .answer) ≡ 0 → ⊥) → r .log ≡ log
   -- where it was handed none, the empty log to 13,632,480
   pub empty-refused : (regimeEnd : ℕ) (r : Logged) → EmptyGives regimeEnd r → (answerNumber (r .answer) ≡ 0 → ⊥) → r .log ≡ logHolding lastRegimeEnd []
   -- a sheet that is refused gives the empty log for its regime end, or to 13,632,480 where that is refused
@@ -119,6 +135,7 @@ pub record Demand1 : Type 0 where
   pub write-sheet-refused : (log : Log) (out : List ℕ) (r : Written) (o : List ℕ) → WriteSheetGives log out r o → (writtenNumber r ≡ 0 → ⊥) → (o ≡ out) × (lengthFigure r ≡ 0)
   pub write-refused : (y : Year) (out : List ℕ) (r : Written) (o : List ℕ) → WriteGives y out r o → (writtenNumber r ≡ 0 → ⊥) → (o ≡ out) × (lengthFigure r ≡ 0)
   pub refile-refused : (bs out : List ℕ) (r : Written) (o : List ℕ) → RefileGives bs out r o → (writtenNumber r ≡ 0 → ⊥) → (o ≡ out) × (lengthFigure r ≡ 0)
+  pub write-plan-refused : (p : Plan) (out : List ℕ) (r : Written) (o : List ℕ) → WritePlanGives p out r o → (writtenNumber r ≡ 0 → ⊥) → (o ≡ out) × (lengthFigure r ≡ 0)
   -- ---- beside a refusal figures are 0
   pub lost-refused : (log : Log) (a b : ℕ) (r : LostEnergy) → LostGives log a b r → (lostNumber r ≡ 0 → ⊥) → lostFigure r ≡ 0
   pub minutes-refused : (number regimeEnd : ℕ) (r : YearMinutes) → MinutesGives number regimeEnd r → (minutesNumber r ≡ 0 → ⊥) → (firstFigure r ≡ 0) × (endFigure r ≡ 0)
@@ -138,6 +155,10 @@ pub record Demand1 : Type 0 where
   pub read-refused : (bs : List ℕ) (r : Return) → ReturnGives bs r → (answerNumber (r .answer) ≡ 0 → ⊥) → r .year ≡ freshYear
   pub read-accepted : (bs : List ℕ) (r : Return) → ReturnGives bs r → answerNumber (r .answer) ≡ 0 → r .place ≡ 0
   pub read-sheet-accepted : (regimeEnd : ℕ) (bs : List ℕ) (r : Sheet) → SheetGives regimeEnd bs r → answerNumber (r .answer) ≡ 0 → r .place ≡ 0
+  -- beside a refused list no outage, beside a refused plan that is read a plan of zeros
+  pub list-refused : (regimeEnd : ℕ) (p : Plan) (r : Listed) → ListGives regimeEnd p r → (answerNumber (r .answer) ≡ 0 → ⊥) → (r .count ≡ 0) × (r .entries ≡ padded mostOutages zeroEntry [])
+  pub read-plan-refused : (bs : List ℕ) (r : PlanRead) → ReadPlanGives bs r → (answerNumber (r .answer) ≡ 0 → ⊥) → r .plan ≡ noPlan
+  pub read-plan-accepted : (bs : List ℕ) (r : PlanRead) → ReadPlanGives bs r → answerNumber (r .answer) ≡ 0 → r .place ≡ 0
   -- and of a minute or an outage that is not printed an empty text
   pub print-minute-refused : (minute : ℕ) (r : Printed) → PrintMinuteGives minute r → (answerNumber (r .answer) ≡ 0 → ⊥) → r .text ≡ textOf []
   pub print-outage-refused : (e : Entry) (r : Printed) → PrintOutageGives e r → (answerNumber (r .answer) ≡ 0 → ⊥) → r .text ≡ textOf []

@@ -5,6 +5,7 @@
 use mathlib.Core.Path.{_≡_}
 use mathlib.Core.Bool.{true}
 use mathlib.Core.List.{List, _++_}
+use mathlib.Core.Logic.{_⊎_}
 use Prim.Native.Nat.{ℕ, suc, _+_, _-_, _*_, _/_, _^_, _≤_, _<_}
 use lib.Dec.{leb}
 use lib.ListN.{length, getD, take, drop}
@@ -52,6 +53,11 @@ use Rattle.sheet_printout.specs.declared.Printed.{Printed}
 use Rattle.sheet_printout.specs.Dates.{momentOf}
 use Rattle.sheet_printout.specs.Printout.{PrintMinuteGives}
 use Rattle.sheet_printout.specs.Theorems.{RightDate, SameFigures}
+use Rattle.plan.specs.declared.Plan.{Plan}
+use Rattle.plan_message.specs.declared.PlanRead.{PlanRead}
+use Rattle.plan_message.specs.Calls.{ReadPlanGives, WritePlanGives}
+use Rattle.plan_message.specs.Theorems.{planFits, IsPlanOf}
+use Rattle.plan_message.specs.Theorems as plans
 use Rattle.outage_field.specs.Field.{entryBytes}
 use Rattle.sheet_format.specs.declared.Sheet.{Sheet}
 use Rattle.sheet_round_trip.specs.Sheets.{IsSheetOf, IsSheet, longestSheet}
@@ -193,6 +199,21 @@ pub record Demand2 : Type 0 where
   -- rule 17.1: of longer bytes those of the longest sheet and one piece more say all
   pub sheet-cut : (regimeEnd : ℕ) (bs : List ℕ) → longestSheet + entryBytes ≤ length bs → (t u : Sheet)
       → SheetGives regimeEnd (take (longestSheet + entryBytes) bs) t → SheetGives regimeEnd bs u → t ≡ u
+  -- ---- rule 18.9: a plan that is written reads back as itself, where each of its numbers fits into its bytes, as in a program it does
+  pub plan-written-read : (p : Plan) → planFits p ≡ true → (out o : List ℕ) (n : ℕ) → WritePlanGives p out (Length n) o
+      → (t : PlanRead) → ReadPlanGives (take n o) t → t ≡ record { plan = p; answer = Done; place = 0 }
+  -- a plan that is read and written again gives its own bytes, where there is room, and nothing else changes
+  pub plan-read-written : (bs : List ℕ) → Bytes bs → (t : PlanRead) → ReadPlanGives bs t → answerNumber (t .answer) ≡ 0
+      → (out o : List ℕ) (r : Written) → WritePlanGives (t .plan) out r o → length bs ≤ length out → (r ≡ Length (length bs)) × (o ≡ bs ++ drop (length bs) out)
+  -- a message is accepted exactly where some plan has these bytes, and one plan alone has them
+  pub is-plan : (bs : List ℕ) → Bytes bs → (t : PlanRead) → ReadPlanGives bs t
+      → (answerNumber (t .answer) ≡ 0 → IsPlanOf (t .plan) bs) × ((p : Plan) → IsPlanOf p bs → answerNumber (t .answer) ≡ 0)
+  pub plan-same-bytes : (p q : Plan) (bs : List ℕ) → IsPlanOf p bs → IsPlanOf q bs → p ≡ q
+  -- rule 18.8: the one place of a refused message, which is 0, 17 or 8,192
+  pub plan-place : (bs : List ℕ) → Bytes bs → (t : PlanRead) → ReadPlanGives bs t → (answerNumber (t .answer) ≡ 0 → ⊥) → length bs ≤ mostBytes
+      → plans.RefusalPlace bs (t .place) × ((other : ℕ) → plans.RefusalPlace bs other → other ≡ t .place)
+  pub plan-places : (bs : List ℕ) (t : PlanRead) → ReadPlanGives bs t → (answerNumber (t .answer) ≡ 0 → ⊥) → (t .place ≡ 0) ⊎ ((t .place ≡ 17) ⊎ (t .place ≡ 8192))
+  pub plan-longer : (bs : List ℕ) (t : PlanRead) → ReadPlanGives bs t → mostBytes < length bs → (answerNumber (t .answer) ≡ 13) × (t .place ≡ mostBytes)
   -- rule 16.1: what is printed of a minute is its date and time, and that of no other minute
   pub date : (minute : ℕ) (r : Printed) → PrintMinuteGives minute r → answerNumber (r .answer) ≡ 0 → (r .text ≡ textOf (momentOf minute)) × RightDate minute
   pub one-minute : (a b : ℕ) → a ≤ lastRegimeEnd → b ≤ lastRegimeEnd → SameFigures a b → a ≡ b

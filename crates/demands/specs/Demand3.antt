@@ -1,5 +1,5 @@
--- Demand 3, of one run. From an empty log, after any sequence of entries, cancellations and closings, refused calls too, where closing
--- alters no entry, the log holds exactly the entries accepted and not since cancelled, in order of start, no two sharing a minute. Cut
+-- Demand 3, of one run. From an empty log, after any sequence of entries, plans, cancellations and closings, refused calls too, where
+-- a plan counts as its entries in order and closing alters no entry, the log holds exactly the entries accepted and not since cancelled, in order of start, no two sharing a minute. Cut
 -- any stretch of the regime at any minute, midnight or year end included: the lost energy of the two parts adds to that of the whole,
 -- and the whole equals the minute-by-minute sum over those entries. So no year loses more than rated capacity times its minutes.
 use mathlib.Core.Path.{_≡_}

@@ -6,4 +6,5 @@ pub mod Demand2
 pub mod Demand3
 pub mod Closed
 pub mod Sheets
+pub mod Plans
 pub mod Figures

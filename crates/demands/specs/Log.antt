@@ -1,6 +1,6 @@
 -- Calls on the log, their results, and what calls and results say of the entries that should be held.
 use mathlib.Core.Bool.{Bool, false, cond, _||_}
-use mathlib.Core.List.{List, [], _∷_}
+use mathlib.Core.List.{List, [], _∷_, map}
 use Prim.Native.Nat.{ℕ}
 use lib.Dec.{eqb}
 use lib.ListN.{getD}
@@ -12,6 +12,9 @@ use Rattle.outage.specs.declared.Logged.{Logged}
 use Rattle.entries.specs.declared.Key.{Key}
 use Rattle.entries.specs.Row.{zeroEntry, sameEntry, hasKey}
 use Rattle.outage.specs.Calls.{EnterGives, CancelGives, CloseGives}
+use Rattle.plan.specs.declared.Plan.{Plan}
+use Rattle.plan.specs.Plan.{outagesOf}
+use Rattle.plan_entering.specs.Calls.{EnterPlanGives}
 use Rattle.demands.specs.Runs.{Ran, after, eventsOf}
 
 -- ---- the calls, with any numbers at all
@@ -19,12 +22,19 @@ pub data Call : Type 0 where
   entering : Entry → Call
   cancelling : Key → Call
   closing : ℕ → Call
+  planning : Plan → Call
 
--- what a call promises of its result: the contracts of `enter`, `cancel` and `close`
+-- the contract of `enter_plan`, of the log and the answer: it gives the number of an outage beside them
+pub record PlanPromised (log : Log) (p : Plan) (r : Logged) : Type 0 where
+  pub outage : ℕ
+  pub gives : EnterPlanGives log p (record { log = r .log; answer = r .answer; outage = outage })
+
+-- what a call promises of its result: the contracts of `enter`, `cancel`, `close` and `enter_plan`
 abbrev pub Promised : Log → Call → Logged → Type 0
 Promised log (entering e) r = EnterGives log e r
 Promised log (cancelling key) r = CancelGives log key r
 Promised log (closing minute) r = CloseGives log minute r
+Promised log (planning p) r = PlanPromised log p r
 
 -- a call and its result
 abbrev pub Turn : Type 0
@@ -47,11 +57,12 @@ pub data Event : Type 0 where
   closedUp : ℕ → Event
 
 -- an accepted entering puts its entry in, an accepted cancelling takes a key out, an accepted closing closes the log up to a
--- minute, a refused call does nothing
+-- minute, an accepted plan puts its outages in, in their order (rule 18.5), a refused call does nothing
 abbrev pub done : Call → List Event
 done (entering e) = put e ∷ []
 done (cancelling key) = takenOut key ∷ []
 done (closing minute) = closedUp minute ∷ []
+done (planning p) = map put (outagesOf p)
 
 abbrev pub happened : Turn → List Event
 happened turn = cond (eqb (answerNumber (turn .1 .answer)) 0) (done (turn .0)) []

@@ -5,10 +5,11 @@ use mathlib.Core.List.{List, [], _∷_, _++_, map}
 use Prim.Native.Nat.{ℕ, zero, suc, _<_}
 use native.Mathlib.Omega.{arith}
 use native.Mathlib.Nat.{not-suc-le-zero}
-use borrow.Author.Tests.{eq-eqb, ne-eqb}
+use borrow.Author.Tests.{eq-eqb, ne-eqb, eqb-true}
+use lib.Dec.{eqb}
 use lib.ListN.{getD}
 use Rattle.refusals.specs.declared.Refusal.{Refusal}
-use Rattle.refusals.specs.declared.Refusal.the-variants.{BrokenLog, BadSpan, BadPower, SharedMinute, FullLog, NoSuchStart, BadStretch, BadBook, BadYear, FloorAboveCap, TooLarge, BadPeriod, Malformed, NoRoom, BadPiece, ClosedTime}
+use Rattle.refusals.specs.declared.Refusal.the-variants.{BrokenLog, BadSpan, BadPower, SharedMinute, FullLog, NoSuchStart, BadStretch, BadBook, BadYear, FloorAboveCap, TooLarge, BadPeriod, Malformed, NoRoom, BadPiece, ClosedTime, BadPlan}
 use Rattle.refusals.specs.declared.Answer.{Answer}
 use Rattle.refusals.specs.declared.Answer.the-variants.{Done, Refused}
 use Rattle.refusals.specs.Refusals.{refusalNumber, answerNumber, firstApplicable, accepted, Rows}
@@ -33,6 +34,7 @@ byNumber =
     ∷ NoRoom
     ∷ BadPiece
     ∷ ClosedTime
+    ∷ BadPlan
     ∷ []
 
 named : ℕ → Refusal
@@ -57,6 +59,7 @@ named-number Malformed = refl
 named-number NoRoom = refl
 named-number BadPiece = refl
 named-number ClosedTime = refl
+named-number BadPlan = refl
 
 pub same-refusal : (r s : Refusal) → refusalNumber r ≡ refusalNumber s → r ≡ s
 same-refusal r s e = sym (named-number r) ∙ ap named e ∙ named-number s
@@ -78,6 +81,7 @@ never-zero Malformed = omega arith
 never-zero NoRoom = omega arith
 never-zero BadPiece = omega arith
 never-zero ClosedTime = omega arith
+never-zero BadPlan = omega arith
 
 pub same-answer : (a b : Answer) → answerNumber a ≡ answerNumber b → a ≡ b
 same-answer Done Done e = refl
@@ -117,6 +121,25 @@ last-row [] last why false c e = absurd (not-suc-le-zero {n = 0} (omega (arith, 
 last-row (row ∷ front) last why t c e =
     last-row front last why t (c .1) (e ∙ ap (λ (b : Bool). cond b (refusalNumber (row .0)) (firstApplicable (front ++ ((last, t) ∷ [])))) (c .0))
 
+-- rows that ask which refusal other rows gave: each refusal that they can give has its row
+abbrev pub whichOf : ℕ → Rows → Rows
+whichOf n [] = []
+whichOf n (row ∷ rows) = (row .0, eqb n (refusalNumber (row .0))) ∷ whichOf n rows
+
+pub which-none : (rows : Rows) → firstApplicable (whichOf 0 rows) ≡ 0
+which-none [] = refl
+which-none (row ∷ rows) = rw (ne-eqb 0 (refusalNumber (row .0)) (λ e. not-suc-le-zero {n = 0} (omega (arith, never-zero (row .0))))) (which-none rows)
+
+pub which-is : (rows : Rows) → firstApplicable (whichOf (firstApplicable rows) rows) ≡ firstApplicable rows
+which-is [] = refl
+which-is (row ∷ rows) = by (row .1) (eqb (firstApplicable rows) (refusalNumber (row .0))) refl (which-is rows)
+  where
+    by : (b same : Bool) → eqb (firstApplicable rows) (refusalNumber (row .0)) ≡ same → firstApplicable (whichOf (firstApplicable rows) rows) ≡ firstApplicable rows
+        → firstApplicable (whichOf (cond b (refusalNumber (row .0)) (firstApplicable rows)) (row ∷ rows)) ≡ cond b (refusalNumber (row .0)) (firstApplicable rows)
+    by true same e h = rw (eq-eqb (refusalNumber (row .0)) (refusalNumber (row .0)) refl) refl
+    by false true e h = rw e (sym (eqb-true (firstApplicable rows) (refusalNumber (row .0)) e))
+    by false false e h = rw e h
+
 -- what a call gives is the one thing where it is not refused and the other where it is
 module _ {A : Type 0} (rows : Rows) (n : ℕ) (given asked other : A) (number : n ≡ firstApplicable rows) (is : given ≡ cond (accepted rows) asked other) where
   pub beside-accepted : n ≡ 0 → given ≡ asked
@@ -125,8 +148,8 @@ module _ {A : Type 0} (rows : Rows) (n : ℕ) (given asked other : A) (number : 
   pub beside-refused : (n ≡ 0 → ⊥) → given ≡ other
   beside-refused z = is ∙ ap (λ (b : Bool). cond b asked other) (ne-eqb (firstApplicable rows) 0 (λ e. z (number ∙ e)))
 
--- the numbers in the order in which they are looked for: each of 1 to 14 and 16 once
-pub turns : map refusalNumber inTurn ≡ 8 ∷ 1 ∷ 2 ∷ 3 ∷ 16 ∷ 4 ∷ 5 ∷ 6 ∷ 7 ∷ 9 ∷ 12 ∷ 11 ∷ 10 ∷ 13 ∷ 14 ∷ []
+-- the numbers in the order in which they are looked for: each of 1 to 14, 16 and 17 once
+pub turns : map refusalNumber inTurn ≡ 8 ∷ 1 ∷ 17 ∷ 2 ∷ 3 ∷ 16 ∷ 4 ∷ 5 ∷ 6 ∷ 7 ∷ 9 ∷ 12 ∷ 11 ∷ 10 ∷ 13 ∷ 14 ∷ []
 turns = refl
 
 -- and on a day sheet

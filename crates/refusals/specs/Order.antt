@@ -4,13 +4,14 @@ use mathlib.Core.List.{List, [], _∷_}
 use lib.Dec.{eqb}
 use Rattle.refusals.specs.Refusals.{Rows, refusalNumber}
 use Rattle.refusals.specs.declared.Refusal.{Refusal}
-use Rattle.refusals.specs.declared.Refusal.the-variants.{BrokenLog, BadSpan, BadPower, SharedMinute, FullLog, NoSuchStart, BadStretch, BadBook, BadYear, FloorAboveCap, TooLarge, BadPeriod, Malformed, NoRoom, BadPiece, ClosedTime}
+use Rattle.refusals.specs.declared.Refusal.the-variants.{BrokenLog, BadSpan, BadPower, SharedMinute, FullLog, NoSuchStart, BadStretch, BadBook, BadYear, FloorAboveCap, TooLarge, BadPeriod, Malformed, NoRoom, BadPiece, ClosedTime, BadPlan}
 
 -- rule 12.2: the order in which they are looked for
 abbrev pub inTurn : List Refusal
 inTurn =
     BadBook
     ∷ BrokenLog
+    ∷ BadPlan
     ∷ BadSpan
     ∷ BadPower
     ∷ ClosedTime

@@ -27,7 +27,7 @@ pub enum Refusal {
     TooLarge,
     // 12: a day, a period or the gap of two is out of range
     BadPeriod,
-    // 13: the bytes are no return, or no day sheet
+    // 13: the bytes are no return, no day sheet, or no plan
     Malformed,
     // 14: the buffer has no room for what is to be written
     NoRoom,
@@ -35,6 +35,8 @@ pub enum Refusal {
     BadPiece,
     // 16: the start lies before the closed minute
     ClosedTime,
+    // 17: the count, the step or the window of a plan is out of range
+    BadPlan,
 }
 
 // The answer of a call that gives nothing else.
@@ -71,6 +73,7 @@ impl Refusal {
             Refusal::NoRoom => 14,
             Refusal::BadPiece => 15,
             Refusal::ClosedTime => 16,
+            Refusal::BadPlan => 17,
         }
     }
 }

@@ -4,6 +4,7 @@
 use super::asking;
 use super::fields::KEPT;
 use super::fields::of_year;
+use super::plans;
 use super::returns;
 use super::setting;
 use super::sheets;
@@ -120,6 +121,8 @@ fn ask_of_value(call: u64, s: &[u8]) -> bool {
         16_00032 => asking::reconcile(s),
         26_00004 => sheets::minute(s),
         27_00010 => sheets::outage(s),
+        64_00018 => plans::list(s),
+        67_00018 => plans::write(s),
         _ => ask_at_length(call / 100_000, s),
     }
 }
@@ -128,6 +131,7 @@ fn ask_at_length(tag: u64, s: &[u8]) -> bool {
     match tag {
         19 => returns::refile(s),
         20 => returns::print(s),
+        66 => plans::read(s),
         _ => false,
     }
 }

@@ -2,6 +2,7 @@
 mod asking;
 mod calls;
 mod fields;
+mod plans;
 mod returns;
 mod say;
 mod setting;
@@ -78,6 +79,7 @@ fn carry_out(mut log: Log, mut book: Book, mut years: [Year; 5]) {
             39_00001 => log = setting::log_from(years[k]),
             40_99999 => bytes = keep(&mut kept, bytes, s),
             41_00000 => bytes = setting::forget(),
+            65_00014 => log = plans::enter(s, log),
             _ => {
                 done = ask(call, s, &kept, bytes, book, years, years[k], log);
                 if !done {

@@ -2,6 +2,7 @@
 use codec::unsigned;
 use outage::Entry;
 use outage::Log;
+use plan::Plan;
 use year::Line;
 use year::Year;
 
@@ -39,6 +40,18 @@ fn more_of_line(sum: u64, l: Line) -> u64 {
 // A log's count, regime end and closed minute more, after its slots.
 pub(crate) fn more_of_ends(sum: u64, count: usize, regime_end: u32, closed: u32) -> u64 {
     more(more(more_wide(sum, count as u64), regime_end), closed)
+}
+
+// The slots of a list.
+pub(crate) fn of_entries(entries: [Entry; Plan::MOST_OUTAGES]) -> u64 {
+    let mut next: u64 = 0;
+    let mut i: usize = 0;
+    while i < Plan::MOST_OUTAGES {
+        let e = entries[i];
+        next = more_of_entry(next, e);
+        i += 1;
+    }
+    next
 }
 
 // The log, after what is summed already.

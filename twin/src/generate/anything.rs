@@ -121,7 +121,7 @@ impl Generator {
         } else {
             (self.any_period(), self.any_period())
         };
-        match self.random.below(42) {
+        match self.random.below(46) {
             0 => Call::Empty { regime_end: self.any_u32() },
             1 => Call::Enter { outage: self.any_outage() },
             2 => Call::Cancel { start: self.any_u32() },
@@ -164,6 +164,7 @@ impl Generator {
             33 => Call::Enter { outage: Slot { start: 5, end: 9, mw: self.random.mw() } },
             34 => Call::Close { minute: self.any_closing() },
             35 => Call::SetClosed { minute: self.any_closing() },
+            36..=39 => self.any_plan_call(),
             _ => self.any_sheet_call(),
         }
     }

@@ -82,7 +82,7 @@ impl Generator {
     }
 
     /// Closes by a call, or sets the closed minute.
-    fn close_at(&mut self, minute: u32) {
+    pub fn close_at(&mut self, minute: u32) {
         let set = self.random.one_in(4);
         self.call(if set { Call::SetClosed { minute } } else { Call::Close { minute } });
     }
@@ -102,7 +102,7 @@ impl Generator {
     }
 
     /// An open log with entries before a year end, up to it, across it, from it
-    /// on and behind it, one in three with 399 or 400 entries.
+    /// on and behind it, one in two with 399 or 400 entries.
     fn put_log_around(&mut self, at: u32, regime_end: u32) {
         let (at, last) = (at as i128, regime_end as i128);
         let beside: &[(i128, i128)] = match self.random.below(6) {
@@ -124,7 +124,7 @@ impl Generator {
         let count = if room { self.random.below(4) as usize } else { 0 };
         let behind = self.random.outages(count, at + 10, at + 4_000);
         let others = middle.len() + behind.len();
-        let count = if self.random.one_in(3) {
+        let count = if self.random.one_in(2) {
             self.random.pick(&[399, 400, 400]) - others
         } else {
             self.random.below(4) as usize
@@ -325,10 +325,10 @@ impl Generator {
 mod tests {
     use super::*;
     use crate::desk::Desk;
+    use crate::generate::tests::seen;
     use crate::model::calendar::is_year_end;
     use crate::model::log::{Log, SLOTS};
     use crate::model::yearly_return;
-    use std::collections::BTreeMap;
 
     /// The edges of an entering on a log that keeps the rules.
     fn entering_edges(log: &Log, outage: &Slot, number: &str) -> Vec<&'static str> {
@@ -423,17 +423,7 @@ mod tests {
 
     #[test]
     fn the_edges_of_closed_years_are_frequent() {
-        let mut generator = Generator::new(1);
-        let mut seen: BTreeMap<&str, u64> = BTreeMap::new();
-        for _ in 0..700 {
-            let mut desk = Desk::new();
-            for (call, answer) in generator.next_block().calls {
-                for edge in edges(&desk, &call, &answer) {
-                    *seen.entry(edge).or_default() += 1;
-                }
-                desk.carry_out(&call);
-            }
-        }
+        let seen = seen(edges);
         assert_eq!(seen.len(), 11 + 5 + 11 + 4, "{seen:?}");
         assert!(seen.values().all(|times| *times >= 20), "{seen:?}");
     }

@@ -192,6 +192,10 @@ impl Generator {
             let minute = self.closing_minute();
             return self.call(Call::Close { minute });
         }
+        if self.random.one_in(60) {
+            let plan = self.random.some_plan(self.desk.log.regime_end);
+            return self.call(Call::EnterPlan { plan });
+        }
         let number = self.random.year_number();
         let call = match self.random.below(22) {
             0..=7 => Call::Enter { outage: self.outage_to_enter() },

@@ -14,6 +14,7 @@ pub mod growth;
 pub mod levels;
 pub mod log;
 pub mod oldsheet;
+pub mod plan;
 pub mod revenue;
 pub mod rounding;
 pub mod settlement;
@@ -25,7 +26,7 @@ pub mod yearly_return;
 #[cfg(test)]
 mod figures;
 
-/// A refusal's number, 1 to 16.
+/// A refusal's number, 1 to 17.
 pub type Refusal = u8;
 
 /// 10^9, the limit of amounts and levels.

@@ -1,6 +1,6 @@
 //! The checksums of docs/REPLAY.md.
 
-use super::log::Log;
+use super::log::{Log, Slot};
 use super::year::Year;
 
 /// Starts at 0; each number x makes it (sum x 65,599 + x) mod 4,294,967,291.
@@ -18,12 +18,16 @@ impl Sum {
         self.add(number as u32);
     }
 
-    fn add_log(&mut self, log: &Log) {
-        for slot in &log.slots {
+    fn add_slots(&mut self, slots: &[Slot]) {
+        for slot in slots {
             self.add(slot.start);
             self.add(slot.end);
             self.add(slot.mw as u32);
         }
+    }
+
+    fn add_log(&mut self, log: &Log) {
+        self.add_slots(&log.slots);
         self.add_wide(log.count);
         self.add(log.regime_end);
         self.add(log.closed);
@@ -33,6 +37,13 @@ impl Sum {
 pub fn log_sum(log: &Log) -> u64 {
     let mut sum = Sum::default();
     sum.add_log(log);
+    sum.0
+}
+
+/// The sum of the slots of a list.
+pub fn slot_sum(slots: &[Slot]) -> u64 {
+    let mut sum = Sum::default();
+    sum.add_slots(slots);
     sum.0
 }
 
@@ -75,6 +86,14 @@ mod tests {
         let mut wide = Sum::default();
         wide.add_wide(u64::MAX);
         assert_eq!(wide.0, (4 * 65_599 + 4) % 4_294_967_291);
+    }
+
+    #[test]
+    fn slots_are_start_end_and_mw() {
+        let slot = |start, end, mw| Slot { start, end, mw };
+        assert_eq!(slot_sum(&[slot(0, 0, 0), slot(0, 1, 2)]), 65_601);
+        assert_eq!(slot_sum(&[slot(1, 2, 3)]), byte_sum(&[1, 2, 3]));
+        assert_eq!(slot_sum(&[slot(0, 0, 1), slot(0, 0, 0)]), byte_sum(&[1, 0, 0, 0]));
     }
 
     #[test]

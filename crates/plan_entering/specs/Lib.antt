@@ -1,0 +1,3 @@
+-- What entering a plan gives.
+pub mod Calls
+pub mod Steps
