@@ -169,6 +169,25 @@ static void stand_years(unsigned fullness)
 
 /* ---- The return: of year 2; at 100 % the longest there is, at 0 % the shortest */
 
+static void put_lines(unsigned count)
+{
+    for (unsigned i = 0; i < count; i++) {
+        const size_t line = begin(6);
+        put_line(i);
+        end(line);
+    }
+}
+
+/* Outages from a minute on, each of half a step. */
+static void put_outages(unsigned count, uint32_t first, uint32_t step)
+{
+    for (unsigned i = 0; i < count; i++) {
+        const size_t outage = begin(7);
+        put_outage(first + step * i, step / 2, 300);
+        end(outage);
+    }
+}
+
 static void put_return(unsigned fullness)
 {
     short_field(1, 1, 2);
@@ -178,16 +197,8 @@ static void put_return(unsigned fullness)
     if (fullness == 0)
         return;
     short_field(5, 4, 9000 << 16 | 9500);
-    for (unsigned i = 0; i < part(LINE_SLOTS, fullness); i++) {
-        const size_t line = begin(6);
-        put_line(i);
-        end(line);
-    }
-    for (unsigned i = 0; i < part(LOG_SLOTS, fullness); i++) {
-        const size_t outage = begin(7);
-        put_outage(482400 + 1000 * i, 500, 300);
-        end(outage);
-    }
+    put_lines(part(LINE_SLOTS, fullness));
+    put_outages(part(LOG_SLOTS, fullness), 482400, 1000);
     short_field(8, 1, 1);
     short_field(9, 8, 250000);
 }
@@ -311,6 +322,85 @@ static void write_plan_with(unsigned room, unsigned fullness)
     const size_t place = begin(67);
     put_plan(fullness);
     put(4, room);
+    end(place);
+}
+
+/* ---- The workbook: cells of a period, and the input that fills them, of years 1 to 5; at 100 % 64 lines and 80 outages in
+   each return, at 0 % the shortest returns */
+
+enum { AMOUNTS = 25, NUMBER_KIND = 1, DAY_KIND = 2, FIRST_DAY = 45292, LAST_DAY = 45657 };
+
+/* Revenue, cap, floor and W of each year, the balances and the adjustment. No W is 0, so no cell is empty. */
+static int64_t amount_of(unsigned i)
+{
+    static const int64_t YEARLY[4] = {95123457, 88608978, 51604250, -2500000};
+    static const int64_t OTHERS[5] = {694544947, 631882087, 364744022, 3170661, -65833521};
+    return i < 20 ? YEARLY[i % 4] : OTHERS[i - 20];
+}
+
+static void put_float(double value)
+{
+    uint64_t bits;
+    memcpy(&bits, &value, sizeof bits);
+    put(8, bits);
+}
+
+static double day_of(unsigned i)
+{
+    static const double DAYS[3] = {FIRST_DAY, LAST_DAY, (FIRST_DAY + LAST_DAY) / 2.0};
+    return DAYS[i];
+}
+
+/* An export whose first amount is given. */
+static void export_with(int64_t first)
+{
+    const size_t place = begin(70);
+    put(8, (uint64_t)first);
+    for (unsigned i = 1; i < AMOUNTS; i++)
+        put(8, (uint64_t)amount_of(i));
+    for (unsigned i = 0; i < 3; i++)
+        put_float(day_of(i));
+    end(place);
+}
+
+/* Cells to be read, the first of this kind. */
+static void read_cells_with(unsigned kind)
+{
+    const size_t place = begin(71);
+    for (unsigned i = 0; i < AMOUNTS; i++) {
+        put(1, i == 0 ? kind : NUMBER_KIND);
+        put_float((double)amount_of(i));
+    }
+    for (unsigned i = 0; i < 3; i++) {
+        put(1, DAY_KIND);
+        put_float(day_of(i));
+    }
+    end(place);
+}
+
+/* The return of year k + 1 under this first tag, behind its length: a field without a tag of its own. */
+static void put_filed(unsigned k, uint8_t tag, unsigned fullness)
+{
+    static const uint32_t STARTS[PERIOD_YEARS] = {0, 482400, 1009440, 1535040, 2060640};
+    const size_t place = made.used - 1;
+    put(2, 0);
+    short_field(tag, 1, k + 1);
+    short_field(2, 4, 10000 + 200 * k);
+    short_field(3, 4, 86000);
+    short_field(4, 2, 10100);
+    put_lines(part(LINE_SLOTS, fullness));
+    put_outages(part(LOG_SLOTS / PERIOD_YEARS, fullness), STARTS[k], 5000);
+    end(place);
+}
+
+/* The input whose first return has this first tag. */
+static void fill_workbook_with(uint8_t tag, unsigned fullness)
+{
+    const size_t place = begin(73);
+    put(4, FIRST_DAY);
+    put(4, LAST_DAY);
+    for (unsigned k = 0; k < PERIOD_YEARS; k++)
+        put_filed(k, k == 0 ? tag : 1, fullness);
     end(place);
 }
 
@@ -487,6 +577,23 @@ static void write_plan(unsigned fullness)
     write_plan_with(PLAN_BYTES, fullness);
 }
 
+static void export(unsigned fullness)
+{
+    (void)fullness;
+    export_with(amount_of(0));
+}
+
+static void read_cells(unsigned fullness)
+{
+    (void)fullness;
+    read_cells_with(NUMBER_KIND);
+}
+
+static void fill_workbook(unsigned fullness)
+{
+    fill_workbook_with(1, fullness);
+}
+
 /* ---- Bases: the cheapest call of the like kind */
 
 /* An entry of the growth table: a short call and a short answer. */
@@ -560,6 +667,26 @@ static void write_plan_refused(unsigned fullness)
     write_plan_with(PLAN_BYTES - 1, fullness);
 }
 
+/* Revenue of the first year out of range: refused by 9. */
+static void export_refused(unsigned fullness)
+{
+    (void)fullness;
+    export_with(1000000001);
+}
+
+/* A day where a number is to stand: refused at index 0. */
+static void read_cells_refused(unsigned fullness)
+{
+    (void)fullness;
+    read_cells_with(DAY_KIND);
+}
+
+/* A first return whose first tag is unknown. */
+static void fill_workbook_refused(unsigned fullness)
+{
+    fill_workbook_with(0, fullness);
+}
+
 /* ---- Cases */
 
 struct bench_case {
@@ -595,6 +722,9 @@ static const struct bench_case CASES[] = {
     {"list-plan", stand_nothing, list_plan, growth},
     {"read-plan", stand_nothing, read_plan, read_plan_refused},
     {"write-plan", stand_nothing, write_plan, write_plan_refused},
+    {"export", stand_nothing, export, export_refused},
+    {"read-cells", stand_nothing, read_cells, read_cells_refused},
+    {"fill-workbook", stand_nothing, fill_workbook, fill_workbook_refused},
 };
 
 static const struct bench_case *case_of(const char *name, size_t length)

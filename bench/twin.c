@@ -508,6 +508,121 @@ static bool call_write_plan(struct value v)
     return true;
 }
 
+/* ---- Calls on a workbook */
+
+/* A float is its 64 bits. */
+static double float_of(const uint8_t *bytes)
+{
+    const uint64_t bits = get64(bytes);
+    double value;
+    memcpy(&value, &bits, sizeof value);
+    return value;
+}
+
+static void float_figure(double value)
+{
+    uint64_t bits;
+    memcpy(&bits, &value, sizeof bits);
+    figure(bits);
+}
+
+static struct dated dated_of(const uint8_t *bytes)
+{
+    return (struct dated){float_of(bytes), float_of(bytes + 8), float_of(bytes + 16)};
+}
+
+static void dated_figures(const struct dated *period)
+{
+    float_figure(period->first);
+    float_figure(period->last);
+    float_figure(period->median);
+}
+
+enum { CELL_BYTES = 9 };
+
+/* Takes a cell; false where its kind is none. */
+static bool take_cell(const uint8_t *bytes, struct cell *cell)
+{
+    *cell = (struct cell){bytes[0], float_of(bytes + 1)};
+    return bytes[0] <= DAY_CELL;
+}
+
+static bool answer_cells(int number, const struct cell cells[CELLS])
+{
+    begin((uint64_t)number);
+    for (size_t i = 0; i < CELLS; i++) {
+        figure(cells[i].kind);
+        float_figure(cells[i].value);
+    }
+    end_line();
+    return true;
+}
+
+static bool call_make_period(struct value v)
+{
+    struct dated period;
+    begin((uint64_t)make_period(period_of(v.bytes), &period));
+    dated_figures(&period);
+    end_line();
+    return true;
+}
+
+static bool call_gap_of_medians(struct value v)
+{
+    const struct dated earlier = dated_of(v.bytes), later = dated_of(v.bytes + 24);
+    uint32_t n;
+    const int number = gap_of_medians(&earlier, &later, &n);
+    answer_unsigned(number, n);
+    return true;
+}
+
+static bool call_export(struct value v)
+{
+    int64_t amounts[AMOUNTS];
+    struct cell cells[CELLS];
+    for (size_t i = 0; i < AMOUNTS; i++)
+        amounts[i] = amount_of(v.bytes + 8 * i);
+    const struct dated period = dated_of(v.bytes + 8 * AMOUNTS);
+    const int number = export_cells(amounts, &period, cells);
+    return answer_cells(number, cells);
+}
+
+static bool call_read_cells(struct value v)
+{
+    struct cell cells[CELLS];
+    int64_t amounts[AMOUNTS];
+    struct dated period;
+    uint32_t index;
+    for (size_t i = 0; i < CELLS; i++)
+        if (!take_cell(v.bytes + CELL_BYTES * i, &cells[i]))
+            return false;
+    begin((uint64_t)read_cells(cells, amounts, &period, &index));
+    figure(index);
+    for (size_t i = 0; i < AMOUNTS; i++)
+        signed_figure(amounts[i]);
+    dated_figures(&period);
+    end_line();
+    return true;
+}
+
+static bool call_print_cell(struct value v)
+{
+    struct cell cell;
+    uint8_t text[TEXT_BYTES];
+    size_t length;
+    if (!take_cell(v.bytes + 4, &cell))
+        return false;
+    const int number = print_cell(get32(v.bytes), cell, text, &length);
+    return answer_text(number, text, length);
+}
+
+static bool call_fill_workbook(struct value v)
+{
+    struct cell cells[CELLS];
+    const int number = fill_workbook(v.bytes, v.length, cells);
+    return answer_cells(number, cells);
+}
+
 /* ---- Setting what stands */
 
 static bool set_slot(struct value v)
@@ -773,6 +888,12 @@ static const struct call CALLS[] = {
     [65] = {call_enter_plan, 14, false},
     [66] = {call_read_plan, 0, true},
     [67] = {call_write_plan, 18, false},
+    [68] = {call_make_period, 8, false},
+    [69] = {call_gap_of_medians, 48, false},
+    [70] = {call_export, 8 * AMOUNTS + 24, false},
+    [71] = {call_read_cells, CELL_BYTES * CELLS, false},
+    [72] = {call_print_cell, 4 + CELL_BYTES, false},
+    [73] = {call_fill_workbook, 0, true},
 };
 
 /* What was read of the script and is not carried out yet: from `at` to `end`. */

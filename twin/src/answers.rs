@@ -1,6 +1,8 @@
 //! Answer lines in readable form.
 
-use crate::script::Call;
+use crate::floats::{cell_words, float_words};
+use crate::model::workbook::{AMOUNTS, CELLS};
+use crate::script::{Call, CellBits};
 use crate::words::time_words;
 
 /// What a refusal's number says (rule 12.1).
@@ -19,15 +21,22 @@ pub fn refusal_words(number: i128) -> &'static str {
              at no year end"
         }
         10 => "floor balance above cap balance",
-        11 => "above 10^9, or a balance or what is settled above 10^10",
-        12 => "day number out of range, period reversed, or n not 0 to 499",
-        13 => "return, day sheet or plan malformed",
+        11 => {
+            "above 10^9, or a balance or what is settled above 10^10, or an exported adjustment \
+             above 3 x 10^10"
+        }
+        12 => {
+            "day number out of range or not whole, period reversed, a median not that of its \
+             days, or n not 0 to 499"
+        }
+        13 => "return, day sheet, plan or input of a workbook malformed",
         14 => "no room for the written return, day sheet or plan",
         15 => "a piece of a day sheet that does not fit",
         16 => "starts in closed time",
         17 => {
             "the plan's count is not 1 to 400, its step is 0, or its window is longer than its step"
         }
+        18 => "a bad cell of a workbook",
         _ => "no such refusal",
     }
 }
@@ -105,6 +114,37 @@ fn plan_words(numbers: &[i128]) -> Option<String> {
     Some(format!("from {start} on, {length} minutes every {step} days, {count} times, {mw} MW"))
 }
 
+/// The bits of a float in words.
+fn bits_words(number: &i128) -> Option<String> {
+    Some(float_words(u64::try_from(*number).ok()?))
+}
+
+/// The three floats of a workbook's period.
+fn days_words(numbers: &[i128]) -> Option<String> {
+    let [first, last, median] = numbers else { return None };
+    let (first, last) = (bits_words(first)?, bits_words(last)?);
+    Some(format!("first day {first}, last day {last}, median {}", bits_words(median)?))
+}
+
+/// The cells of a workbook, each by its kind and its bits.
+fn cells_words(numbers: &[i128]) -> Option<String> {
+    if numbers.len() != 2 * CELLS {
+        return None;
+    }
+    let words = numbers.chunks(2).map(|pair| {
+        let (kind, bits) = (u8::try_from(pair[0]).ok()?, u64::try_from(pair[1]).ok()?);
+        (kind <= 2).then(|| cell_words(&CellBits { kind, bits }))
+    });
+    Some(words.collect::<Option<Vec<_>>>()?.join(", "))
+}
+
+/// The amounts and the period of cells that were read.
+fn read_words(numbers: &[i128]) -> Option<String> {
+    let (amounts, days) = numbers.split_at_checked(AMOUNTS)?;
+    let amounts: Vec<String> = amounts.iter().map(i128::to_string).collect();
+    Some(format!("amounts {}, {}", amounts.join(" "), days_words(days)?))
+}
+
 /// A call's figures where it is accepted.
 fn figure_words(call: &Call, figures: &[i128]) -> Option<String> {
     let first = figures.first().copied();
@@ -122,7 +162,7 @@ fn figure_words(call: &Call, figures: &[i128]) -> Option<String> {
             let [a, c, f, w, t, adjustment] = figures[..] else { return None };
             format!("A {a}, C {c}, F {f}, W {w}, T {t}, adjustment {adjustment}")
         }
-        Call::Gap { .. } => format!("n = {}", first?),
+        Call::Gap { .. } | Call::GapOfMedians { .. } => format!("n = {}", first?),
         Call::Growth { .. } => format!("entry {}", first?),
         Call::Revenue { .. } | Call::Pay { .. } | Call::Settle { .. } | Call::Reconcile { .. } => {
             format!("{} pounds", first?)
@@ -142,9 +182,15 @@ fn figure_words(call: &Call, figures: &[i128]) -> Option<String> {
         | Call::WritePlan { .. } => {
             format!("{} bytes, buffer sum {}", first?, figures.get(1)?)
         }
-        Call::Print { .. } | Call::PrintMinute { .. } | Call::PrintOutage { .. } => {
+        Call::Print { .. }
+        | Call::PrintMinute { .. }
+        | Call::PrintOutage { .. }
+        | Call::PrintCell { .. } => {
             format!("text of {} bytes, sum {}", first?, figures.get(1)?)
         }
+        Call::MakePeriod { .. } => days_words(figures)?,
+        Call::Export { .. } | Call::FillWorkbook { .. } => cells_words(figures)?,
+        Call::ReadCells { .. } => read_words(figures.get(1..)?)?,
         _ => "done".to_string(),
     })
 }
@@ -175,6 +221,7 @@ fn words_of_numbers(call: &Call, numbers: &[i128]) -> Option<String> {
         Call::ListPlan { .. } | Call::EnterPlan { .. } if *figures.first()? > 0 => {
             format!(" at outage {}", figures[0])
         }
+        Call::ReadCells { .. } => format!(" at cell {}", figures.first()?),
         _ => String::new(),
     };
     Some(format!("refused {number}{place}: {}", refusal_words(*number)))
@@ -211,7 +258,7 @@ mod tests {
         assert_eq!(words("target 2", "0 1"), "met");
         assert_eq!(
             words("read 0 00", "13 0 5"),
-            "refused 13 at place 0: return, day sheet or plan malformed"
+            "refused 13 at place 0: return, day sheet, plan or input of a workbook malformed"
         );
         assert_eq!(words("set-count 0 0", "0"), "done");
         assert_eq!(words("show-log", "malformed 12"), "malformed at place 12 of the script");
@@ -239,9 +286,43 @@ mod tests {
             words("read-plan 00", "0 0 1410 120 14 27 500"),
             "from 2019-01-31 23:30 on, 120 minutes every 14 days, 27 times, 500 MW",
         );
-        let malformed = "refused 13 at place 17: return, day sheet or plan malformed";
+        let malformed =
+            "refused 13 at place 17: return, day sheet, plan or input of a workbook malformed";
         assert_eq!(words("read-plan 00", "13 17 0 0 0 0 0"), malformed);
         assert_eq!(words("write-plan 0 1 1 1 1 20", "0 17 99"), "17 bytes, buffer sum 99");
+    }
+
+    #[test]
+    fn workbooks_in_words() {
+        // 61, 62 and 61.5.
+        let days = "4633781804099174400 4633922541587529728 4633852172843352064";
+        let made = "first day 61, last day 62, median 61.5";
+        assert_eq!(words("make-period 61 62", &format!("0 {days}")), made);
+        let refused = words("make-period 60 62", "12 0 0 0");
+        assert!(refused.starts_with("refused 12: day number out of range"), "{refused}");
+        assert_eq!(words("gap-of-medians 61 62 61.5 61 62 61.5", "0 7"), "n = 7");
+        let printed = words("print-cell 3 empty", "0 28 99");
+        assert_eq!(printed, "text of 28 bytes, sum 99");
+        assert_eq!(words("print-cell 0 empty", "18 0 0"), "refused 18: a bad cell of a workbook");
+        assert_eq!(
+            words("fill-workbook", &format!("13{}", " 0".repeat(56))),
+            "refused 13: return, day sheet, plan or input of a workbook malformed",
+        );
+    }
+
+    #[test]
+    fn cells_in_words() {
+        let row = format!("read-cells{}", " empty".repeat(28));
+        let days = "4633781804099174400 4633781804099174400 4633781804099174400";
+        let answer = format!("0 0 -7{} 8 {days}", " 0".repeat(23));
+        let amounts = format!("amounts -7{} 8, first day 61", " 0".repeat(23));
+        assert_eq!(words(&row, &answer), format!("{amounts}, last day 61, median 61"));
+        let refused = format!("18 27{}", " 0".repeat(28));
+        assert_eq!(words(&row, &refused), "refused 18 at cell 27: a bad cell of a workbook");
+        let export = format!("export{} 61 61 61", " 0".repeat(25));
+        let cells = format!("0 1 4607182418800017408{} 2 4633781804099174400", " 0 0".repeat(26));
+        assert_eq!(words(&export, &cells), format!("number 1{}, day 61", ", empty".repeat(26)),);
+        assert_eq!(words(&export, "0 1 5"), "0 1 5");
     }
 
     #[test]

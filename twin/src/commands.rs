@@ -10,17 +10,19 @@ use std::thread;
 
 use crate::answers::{answer_words, refusal_words};
 use crate::generate::{Block, Generator};
-use crate::model::{daysheet, oldsheet};
+use crate::model::{daysheet, filling, oldsheet};
 use crate::script::Call;
 use crate::words::{call_words, parse_line, word};
 
 /// Where the script of a difference is written.
 const DIFFERENCE: &str = "target/twin-difference.script";
-/// The tags of calls of the library but for those on plans; the others set and
-/// show.
+/// The tags of calls of the library but for those on plans and workbooks; the
+/// others set and show.
 const CALLS: RangeInclusive<u8> = 1..=28;
 /// The tags of calls on plans.
 const PLANS: RangeInclusive<u8> = 64..=67;
+/// The tags of calls on workbooks.
+const WORKBOOKS: RangeInclusive<u8> = 68..=73;
 /// The tags of calls on returns.
 const RETURNS: RangeInclusive<u8> = 17..=22;
 /// The tags of calls on day sheets and dates.
@@ -33,7 +35,7 @@ type Outcome = Result<bool, String>;
 
 /// Whether a tag is that of a call of the library.
 fn is_of_library(tag: u8) -> bool {
-    CALLS.contains(&tag) || PLANS.contains(&tag)
+    [CALLS, PLANS, WORKBOOKS].iter().any(|tags| tags.contains(&tag))
 }
 
 fn start(command: &[String]) -> Result<Child, String> {
@@ -110,6 +112,7 @@ struct Tally {
     returns: u64,
     sheets: u64,
     plans: u64,
+    workbooks: u64,
     numbers: BTreeMap<u8, BTreeMap<u8, u64>>,
     others: u64,
 }
@@ -125,6 +128,7 @@ impl Tally {
         self.returns += RETURNS.contains(&tag) as u64;
         self.sheets += SHEETS.contains(&tag) as u64;
         self.plans += PLANS.contains(&tag) as u64;
+        self.workbooks += WORKBOOKS.contains(&tag) as u64;
         let number = answer.split(' ').next().and_then(|number| number.parse().ok()).unwrap_or(0);
         *self.numbers.entry(tag).or_default().entry(number).or_default() += 1;
     }
@@ -230,8 +234,8 @@ pub fn compare(seed: u64, least: u64, command: &[String]) -> Outcome {
     tally.print();
     println!(
         "twin: {} calls compared, {} of them returns, {} day sheets and dates, {} plans, \
-         0 differences",
-        tally.calls, tally.returns, tally.sheets, tally.plans
+         {} workbooks, 0 differences",
+        tally.calls, tally.returns, tally.sheets, tally.plans, tally.workbooks
     );
     Ok(true)
 }
@@ -268,6 +272,11 @@ pub fn texts(seed: u64, count: u64, command: &[String]) -> Outcome {
 /// Compares a program that prints old day sheets.
 pub fn sheets(seed: u64, count: u64, command: &[String]) -> Outcome {
     compare_texts(seed, count, command, Generator::printed_sheet, oldsheet::text)
+}
+
+/// Compares a program that prints workbooks.
+pub fn workbooks(seed: u64, count: u64, command: &[String]) -> Outcome {
+    compare_texts(seed, count, command, Generator::some_workbook_input, filling::text)
 }
 
 /// Compares a program's text of each of so many inputs with the model's.

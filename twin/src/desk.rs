@@ -9,6 +9,7 @@ use crate::model::book::Book;
 use crate::model::calendar::year_minutes;
 use crate::model::dates::{minute_text, outage_text};
 use crate::model::daysheet;
+use crate::model::filling::fill;
 use crate::model::growth::growth;
 use crate::model::levels::{availability, levels, target_met};
 use crate::model::log::{slotted, Log, Slot};
@@ -17,10 +18,13 @@ use crate::model::revenue::assessed_revenue;
 use crate::model::settlement::{gap, payment, reconcile, settle};
 use crate::model::sheet;
 use crate::model::sums::{byte_sum, log_sum, slot_sum, year_sum};
+use crate::model::workbook::{
+    export, gap_of_medians, print_cell, read_cells, Cell, WorkbookPeriod, AMOUNTS, CELLS,
+};
 use crate::model::year::Year;
 use crate::model::yearly_return::{read, write_into};
 use crate::model::Refusal;
-use crate::script::{next_field, Call, Field, KEPT};
+use crate::script::{next_field, Call, CellBits, Field, KEPT};
 
 #[derive(Clone)]
 pub struct Desk {
@@ -112,6 +116,30 @@ fn plan_answer(read: Result<Plan, usize>) -> String {
     let (start, length) = (plan.start as i128, plan.length as i128);
     let (step, count, mw) = (plan.step as i128, plan.count as i128, plan.mw as i128);
     row([number, place, start, length, step, count, mw])
+}
+
+/// The answer of a workbook's period that is made: the bits of its floats.
+fn period_answer(made: Result<WorkbookPeriod, Refusal>) -> String {
+    figures(made.map(|period| period.bits().map(|bits| bits as i128)))
+}
+
+/// The answer of a workbook: the kind and the bits of each of its cells, which
+/// are all empty beside a refusal.
+fn cells_answer(answer: Result<[Cell; CELLS], Refusal>) -> String {
+    let number = number_of(answer.as_ref().map(|_| ()).map_err(|refusal| *refusal));
+    let cells = answer.unwrap_or([Cell::Empty; CELLS]);
+    let numbers = cells.iter().map(CellBits::of).flat_map(|cell| [cell.kind as u64, cell.bits]);
+    row([number as i128].into_iter().chain(numbers.map(|number| number as i128)))
+}
+
+/// The answer of cells that are read: the number, the index of the first bad
+/// cell, the amounts and the period.
+fn read_answer(read: Result<([i64; AMOUNTS], WorkbookPeriod), usize>) -> String {
+    let (number, index) = read.err().map_or((0, 0), |index| (18, index as i128));
+    let (amounts, period) = read.unwrap_or_default();
+    let amounts = amounts.into_iter().map(|amount| amount as i128);
+    let bits = period.bits().into_iter().map(|bits| bits as i128);
+    row([number, index].into_iter().chain(amounts).chain(bits))
 }
 
 /// The answer of a text, which is empty beside a refusal.
@@ -286,6 +314,17 @@ impl Desk {
             Call::WritePlan { plan, room } => {
                 written_sum(*room as usize, |buffer| plan::write_into(plan, buffer))
             }
+            Call::MakePeriod { first, last } => period_answer(WorkbookPeriod::make(*first, *last)),
+            Call::GapOfMedians { earlier, later } => {
+                let [earlier, later] = [earlier, later].map(|bits| WorkbookPeriod::of_bits(*bits));
+                figures(gap_of_medians(&earlier, &later).map(|n| [n as i128]))
+            }
+            Call::Export { amounts, period } => {
+                cells_answer(export(amounts, &WorkbookPeriod::of_bits(*period)))
+            }
+            Call::ReadCells { cells } => read_answer(read_cells(&cells.map(|cell| cell.cell()))),
+            Call::PrintCell { index, cell } => text_answer(print_cell(*index, &cell.cell())),
+            Call::FillWorkbook { bytes } => cells_answer(fill(bytes)),
             setting => {
                 self.set(setting);
                 "0".to_string()
@@ -488,6 +527,67 @@ mod tests {
         let more = [&bytes[..], &[0]].concat();
         assert_eq!(desk.carry_out(&Call::ReadPlan { bytes }), "0 0 100 50 1 2 7");
         assert_eq!(desk.carry_out(&Call::ReadPlan { bytes: more }), "13 17 0 0 0 0 0");
+    }
+
+    /// The bits of 61, 62 and their median: 2^5 times 1 + 29/32, 30/32 and 59/64.
+    const DAYS: [u64; 3] = [0x404e_8000_0000_0000, 0x404f_0000_0000_0000, 0x404e_c000_0000_0000];
+
+    #[test]
+    fn periods_of_a_workbook() {
+        let mut desk = Desk::new();
+        let [first, last, median] = DAYS;
+        let made = desk.carry_out(&Call::MakePeriod { first: 61, last: 62 });
+        assert_eq!(made, format!("0 {first} {last} {median}"));
+        assert_eq!(desk.carry_out(&Call::MakePeriod { first: 62, last: 61 }), "12 0 0 0");
+        let gap = |earlier, later| Call::GapOfMedians { earlier, later };
+        assert_eq!(desk.carry_out(&gap(DAYS, DAYS)), "0 0");
+        assert_eq!(desk.carry_out(&gap(DAYS, [first, last, first])), "12 0");
+        assert_eq!(desk.carry_out(&gap([0; 3], DAYS)), "12 0");
+    }
+
+    #[test]
+    fn cells_of_a_workbook() {
+        let mut desk = Desk::new();
+        let [first, last, median] = DAYS;
+        let amounts = std::array::from_fn(|index| (index == 0) as i64);
+        let exported = desk.carry_out(&Call::Export { amounts, period: DAYS });
+        let mut cells = Box::new([CellBits { kind: 1, bits: 0 }; CELLS]);
+        cells[0].bits = 1f64.to_bits();
+        for yearly_w in [3, 7, 11, 15, 19] {
+            cells[yearly_w].kind = 0;
+        }
+        cells[25..].copy_from_slice(&DAYS.map(|bits| CellBits { kind: 2, bits }));
+        let row: Vec<String> = cells.iter().map(|c| format!("{} {}", c.kind, c.bits)).collect();
+        assert_eq!(exported, format!("0 {}", row.join(" ")));
+        let refused = desk.carry_out(&Call::Export { amounts, period: [0; 3] });
+        assert_eq!(refused, format!("12{}", " 0 0".repeat(28)));
+        let zeros = " 0".repeat(24);
+        let read = desk.carry_out(&Call::ReadCells { cells: cells.clone() });
+        assert_eq!(read, format!("0 0 1{zeros} {first} {last} {median}"));
+        cells[5].kind = 2;
+        let refused = desk.carry_out(&Call::ReadCells { cells });
+        assert_eq!(refused, format!("18 5 0{zeros} 0 0 0"));
+    }
+
+    #[test]
+    fn workbooks_are_printed_and_filled() {
+        let mut desk = Desk::new();
+        let print = |index, bits| Call::PrintCell { index, cell: CellBits { kind: 2, bits } };
+        let sum = byte_sum(b"median,61.5\n");
+        assert_eq!(desk.carry_out(&print(27, DAYS[2])), format!("0 12 {sum}"));
+        assert_eq!(desk.carry_out(&print(26, DAYS[2])), "18 0 0");
+        let refused = desk.carry_out(&Call::FillWorkbook { bytes: vec![] });
+        assert_eq!(refused, format!("13{}", " 0 0".repeat(28)));
+        let mut bytes = vec![0, 0, 0, 61, 0, 0, 0, 62];
+        for number in 1..=5 {
+            let year = Year { number, ..Year::fresh() };
+            bytes.extend([0, 23]);
+            bytes.extend(crate::model::yearly_return::write(&year, 23).unwrap());
+        }
+        let filled = desk.carry_out(&Call::FillWorkbook { bytes });
+        // 0, and 83,806,402 and 48,807,317 as floats; no W.
+        assert!(filled.starts_with("0 1 0 1 4725396561918427136 1 4721819617054425088 0 0 1 0 "));
+        assert!(filled.ends_with(&format!(" 2 {} 2 {} 2 {}", DAYS[0], DAYS[1], DAYS[2])));
     }
 
     #[test]

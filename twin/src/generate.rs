@@ -3,6 +3,7 @@
 mod anything;
 mod assessments;
 mod closings;
+mod fillings;
 mod logs;
 mod plans;
 mod random;
@@ -11,6 +12,7 @@ mod returns;
 mod settlements;
 mod sheets;
 mod values;
+mod workbooks;
 
 use crate::desk::Desk;
 use crate::model::book::Book;
@@ -43,7 +45,7 @@ impl Generator {
     }
 
     pub fn next_block(&mut self) -> Block {
-        match self.random.below(33) {
+        match self.random.below(36) {
             0..=3 => self.block("log", Generator::log_work),
             4 | 5 => self.block("full log", Generator::full_log_work),
             6 | 7 => self.block("broken log", Generator::broken_log_work),
@@ -57,6 +59,7 @@ impl Generator {
             23..=25 => self.sheet_block(),
             26..=28 => self.block("closed years", Generator::closed_work),
             29..=31 => self.plan_block(),
+            32..=34 => self.workbook_block(),
             _ => self.block("anything", Generator::any_work),
         }
     }
@@ -71,6 +74,10 @@ impl Generator {
 
     fn plan_block(&mut self) -> Block {
         self.block("plans", Generator::plan_work)
+    }
+
+    pub fn workbook_block(&mut self) -> Block {
+        self.block("workbooks", Generator::workbook_work)
     }
 
     fn block(&mut self, name: &'static str, work: fn(&mut Generator)) -> Block {
@@ -112,11 +119,11 @@ impl Generator {
     pub fn malformed_field(&mut self) -> Vec<u8> {
         let random = &mut self.random;
         let k_tags = [8, 9, 21, 37, 38, 39, 49];
-        let mut field = match random.below(10) {
-            0 => vec![random.pick(&[0, 29, 31, 43, 47, 53, 63, 68, 255]), 0, 0],
+        let mut field = match random.below(12) {
+            0 => vec![random.pick(&[0, 29, 31, 43, 47, 53, 63, 74, 255]), 0, 0],
             1 => vec![random.pick(&k_tags), 0, 1, random.pick(&[5, 255])],
             2 => vec![random.pick(&[18, 51]), 0, 3, 5, 0, 0],
-            3 => vec![random.pick(&[17, 19, 23, 64, 65, 67]), 0, 0],
+            3 => vec![random.pick(&[17, 19, 23, 64, 65, 67, 68, 69, 70, 71, 72]), 0, 0],
             4 => vec![17, 0, 2, 5, 1],
             5 => {
                 let slot = random.pick(&[400u16, 401, 65_535]).to_be_bytes();
@@ -133,6 +140,13 @@ impl Generator {
                 let length = random.pick(&[1, 17, 40]);
                 [&[0, 0, length][..], &vec![0; length as usize]].concat()
             }
+            9 => {
+                let mut read_cells = vec![71, 0, 252];
+                read_cells.extend([0; 252]);
+                read_cells[3 + 9 * random.below(28) as usize] = random.pick(&[3, 255]);
+                read_cells
+            }
+            10 => [&[72, 0, 13, 0, 0, 0, 0, random.pick(&[3, 255])][..], &[0; 8]].concat(),
             _ => return self.wrong_length(),
         };
         field.extend(Call::ShowBook.encode());
@@ -142,7 +156,7 @@ impl Generator {
     /// A field whose length is not that of its tag, or a field that is cut.
     fn wrong_length(&mut self) -> Vec<u8> {
         let mut block = self.block("anything", Generator::any_work);
-        block.calls.retain(|(call, _)| ![17, 19, 20, 23, 40, 66].contains(&call.tag()));
+        block.calls.retain(|(call, _)| ![17, 19, 20, 23, 40, 66, 73].contains(&call.tag()));
         let (call, _) = self.random.pick(&block.calls);
         let mut field = call.encode();
         if self.random.one_in(2) {
@@ -169,11 +183,20 @@ mod tests {
     /// How often each edge that calls try is tried, in many blocks. Which ones a
     /// call tries is told from what stands before it and its answer.
     pub fn seen<Edge: Ord>(edges: fn(&Desk, &Call, &str) -> Vec<Edge>) -> BTreeMap<Edge, u64> {
+        seen_in(900, Generator::next_block, edges)
+    }
+
+    /// The same in so many blocks of one kind.
+    pub fn seen_in<Edge: Ord>(
+        count: usize,
+        block: fn(&mut Generator) -> Block,
+        edges: fn(&Desk, &Call, &str) -> Vec<Edge>,
+    ) -> BTreeMap<Edge, u64> {
         let mut generator = Generator::new(1);
         let mut seen = BTreeMap::new();
-        for _ in 0..770 {
+        for _ in 0..count {
             let mut desk = Desk::new();
-            for (call, answer) in generator.next_block().calls {
+            for (call, answer) in block(&mut generator).calls {
                 for edge in edges(&desk, &call, &answer) {
                     *seen.entry(edge).or_default() += 1;
                 }
@@ -266,7 +289,7 @@ mod tests {
     /// it can give (rule 12.4).
     #[test]
     fn every_refusal_is_frequent() {
-        let expected: [(u8, &[&str]); 31] = [
+        let expected: [(u8, &[&str]); 37] = [
             (1, &["0", "8"]),
             (2, &["0", "1", "2", "3", "16", "4", "5"]),
             (3, &["0", "1", "16", "6"]),
@@ -298,6 +321,12 @@ mod tests {
             (65, &["0", "1", "17", "2", "3", "16", "4", "5"]),
             (66, &["0", "13"]),
             (67, &["0", "14"]),
+            (68, &["0", "12"]),
+            (69, &["0", "12"]),
+            (70, &["0", "9", "12", "11"]),
+            (71, &["0", "18"]),
+            (72, &["0", "18"]),
+            (73, &["0", "13", "4", "5", "11", "10", "12"]),
         ];
         let seen = seen(|_, call, answer| {
             let number = answer.split(' ').next().unwrap().to_string();

@@ -4,6 +4,7 @@
 mod answers;
 mod commands;
 mod desk;
+mod floats;
 mod generate;
 mod model;
 mod script;
@@ -17,6 +18,7 @@ const USAGE: &str = "use:
   twin malformed SEED COUNT COMMAND..   the same, on scripts that end in a malformed field
   twin texts SEED COUNT COMMAND..       compares COMMAND's texts of returns with the model's
   twin sheets SEED COUNT COMMAND..      compares COMMAND's texts of old day sheets with the model's
+  twin workbooks SEED COUNT COMMAND..   compares COMMAND's texts of workbooks with the model's
   twin figures FILE COMMAND..           compares COMMAND's answers with those in a text
   twin script < TEXT > SCRIPT           turns readable text into a script
   twin answers TEXT < ANSWERS           prints a text with its answers
@@ -26,14 +28,15 @@ const USAGE: &str = "use:
 fn carry_out(arguments: &[String]) -> Option<Result<bool, String>> {
     let words: Vec<&str> = arguments.iter().map(String::as_str).collect();
     Some(match words[..] {
-        ["compare" | "malformed" | "texts" | "sheets", seed, count, _, ..] => {
+        ["compare" | "malformed" | "texts" | "sheets" | "workbooks", seed, count, _, ..] => {
             let (seed, count) = (seed.parse().ok()?, count.parse().ok()?);
             let command = &arguments[3..];
             match words[0] {
                 "compare" => commands::compare(seed, count, command),
                 "malformed" => commands::malformed(seed, count, command),
                 "texts" => commands::texts(seed, count, command),
-                _ => commands::sheets(seed, count, command),
+                "sheets" => commands::sheets(seed, count, command),
+                _ => commands::workbooks(seed, count, command),
             }
         }
         ["figures", file, _, ..] => commands::figures(file, &arguments[2..]),

@@ -7,6 +7,7 @@ use crate::model::book::Book;
 use crate::model::log::{Slot, SLOTS};
 use crate::model::plan::Plan;
 use crate::model::settlement::Period;
+use crate::model::workbook::{Cell, AMOUNTS, CELLS};
 use crate::model::year::{Line, Year, LINES};
 
 /// A year but for its lines and its log, as tag 35 sets it.
@@ -35,6 +36,43 @@ impl YearFields {
             mark: year.mark,
             w: year.w,
             line_count: year.line_count,
+        }
+    }
+}
+
+/// The bits of the three floats of a workbook's period.
+pub type PeriodBits = [u64; 3];
+
+/// A cell: its kind, 0 for empty, 1 for a number, 2 for a day, and the bits of
+/// its float, which an empty cell does not look at.
+#[derive(Clone, Copy, Debug, Default)]
+pub struct CellBits {
+    pub kind: u8,
+    pub bits: u64,
+}
+
+impl PartialEq for CellBits {
+    fn eq(&self, other: &CellBits) -> bool {
+        self.kind == other.kind && (self.kind == 0 || self.bits == other.bits)
+    }
+}
+
+impl Eq for CellBits {}
+
+impl CellBits {
+    pub fn of(cell: &Cell) -> CellBits {
+        match cell {
+            Cell::Empty => CellBits { kind: 0, bits: 0 },
+            Cell::Number(number) => CellBits { kind: 1, bits: number.to_bits() },
+            Cell::Day(day) => CellBits { kind: 2, bits: day.to_bits() },
+        }
+    }
+
+    pub fn cell(&self) -> Cell {
+        match self.kind {
+            0 => Cell::Empty,
+            1 => Cell::Number(f64::from_bits(self.bits)),
+            _ => Cell::Day(f64::from_bits(self.bits)),
         }
     }
 }
@@ -93,6 +131,12 @@ pub enum Call {
     EnterPlan { plan: Plan },
     ReadPlan { bytes: Vec<u8> },
     WritePlan { plan: Plan, room: u32 },
+    MakePeriod { first: u32, last: u32 },
+    GapOfMedians { earlier: PeriodBits, later: PeriodBits },
+    Export { amounts: [i64; AMOUNTS], period: PeriodBits },
+    ReadCells { cells: Box<[CellBits; CELLS]> },
+    PrintCell { index: u32, cell: CellBits },
+    FillWorkbook { bytes: Vec<u8> },
 }
 
 impl Call {
@@ -146,6 +190,12 @@ impl Call {
             Call::EnterPlan { .. } => 65,
             Call::ReadPlan { .. } => 66,
             Call::WritePlan { .. } => 67,
+            Call::MakePeriod { .. } => 68,
+            Call::GapOfMedians { .. } => 69,
+            Call::Export { .. } => 70,
+            Call::ReadCells { .. } => 71,
+            Call::PrintCell { .. } => 72,
+            Call::FillWorkbook { .. } => 73,
         }
     }
 
@@ -211,9 +261,10 @@ impl Call {
                 value.u16(*room);
                 value.0.extend(bytes);
             }
-            Call::Print { bytes } | Call::Keep { bytes } | Call::ReadPlan { bytes } => {
-                value.0.extend(bytes)
-            }
+            Call::Print { bytes }
+            | Call::Keep { bytes }
+            | Call::ReadPlan { bytes }
+            | Call::FillWorkbook { bytes } => value.0.extend(bytes),
             Call::RefileKept { room } | Call::WriteSheet { room } => value.u32(*room),
             Call::ReadSheet { regime_end, bytes } => {
                 value.u32(*regime_end);
@@ -251,6 +302,23 @@ impl Call {
             Call::WritePlan { plan, room } => {
                 value.plan(plan);
                 value.u32(*room);
+            }
+            Call::MakePeriod { first, last } => {
+                value.u32(*first);
+                value.u32(*last);
+            }
+            Call::GapOfMedians { earlier, later } => {
+                value.floats(earlier);
+                value.floats(later);
+            }
+            Call::Export { amounts, period } => {
+                amounts.iter().for_each(|amount| value.i64(*amount));
+                value.floats(period);
+            }
+            Call::ReadCells { cells } => cells.iter().for_each(|cell| value.cell(cell)),
+            Call::PrintCell { index, cell } => {
+                value.u32(*index);
+                value.cell(cell);
             }
         }
     }
@@ -335,6 +403,24 @@ impl Call {
             65 => Call::EnterPlan { plan: part.plan()? },
             66 => Call::ReadPlan { bytes: part.rest() },
             67 => Call::WritePlan { plan: part.plan()?, room: part.u32()? },
+            68 => Call::MakePeriod { first: part.u32()?, last: part.u32()? },
+            69 => Call::GapOfMedians { earlier: part.floats()?, later: part.floats()? },
+            70 => {
+                let mut amounts = [0; AMOUNTS];
+                for amount in &mut amounts {
+                    *amount = part.i64()?;
+                }
+                Call::Export { amounts, period: part.floats()? }
+            }
+            71 => {
+                let mut cells = Box::new([CellBits::default(); CELLS]);
+                for cell in cells.iter_mut() {
+                    *cell = part.cell()?;
+                }
+                Call::ReadCells { cells }
+            }
+            72 => Call::PrintCell { index: part.u32()?, cell: part.cell()? },
+            73 => Call::FillWorkbook { bytes: part.rest() },
             _ => return None,
         };
         part.0.is_empty().then_some(call)
@@ -377,6 +463,15 @@ impl Value {
         for number in [plan.step, plan.count, plan.mw] {
             self.u16(number);
         }
+    }
+
+    fn floats(&mut self, period: &PeriodBits) {
+        period.iter().for_each(|bits| self.u64(*bits));
+    }
+
+    fn cell(&mut self, cell: &CellBits) {
+        self.u8(cell.kind);
+        self.u64(cell.bits);
     }
 
     fn row(&mut self, row: &Row) {
@@ -461,6 +556,15 @@ impl Parts<'_> {
     fn plan(&mut self) -> Option<Plan> {
         let (start, length) = (self.u32()?, self.u32()?);
         Some(Plan { start, length, step: self.u16()?, count: self.u16()?, mw: self.u16()? })
+    }
+
+    fn floats(&mut self) -> Option<PeriodBits> {
+        Some([self.u64()?, self.u64()?, self.u64()?])
+    }
+
+    fn cell(&mut self) -> Option<CellBits> {
+        let kind = self.u8().filter(|kind| *kind <= 2)?;
+        Some(CellBits { kind, bits: self.u64()? })
     }
 
     fn row(&mut self) -> Option<Row> {
@@ -598,8 +702,58 @@ mod tests {
         for bytes in [vec![], vec![30], vec![0; 8_193]] {
             assert_eq!(Call::decode(66, &bytes), Some(Call::ReadPlan { bytes }));
         }
-        for unknown in [63, 68] {
+        for unknown in [63, 74] {
             assert_eq!(Call::decode(unknown, &value), None);
+        }
+    }
+
+    #[test]
+    fn fields_of_workbooks() {
+        let made = Call::MakePeriod { first: 1, last: 258 };
+        assert_eq!(Call::decode(68, &[0, 0, 0, 1, 0, 0, 1, 2]), Some(made));
+        assert_eq!(Call::decode(68, &[0; 7]), None);
+        let floats: Vec<u8> = (1..=6u64).flat_map(u64::to_be_bytes).collect();
+        let gap = Call::GapOfMedians { earlier: [1, 2, 3], later: [4, 5, 6] };
+        assert_eq!(Call::decode(69, &floats), Some(gap));
+        assert_eq!(Call::decode(69, &floats[..47]), None);
+        let numbers: Vec<u8> = (-25..3i64).flat_map(i64::to_be_bytes).collect();
+        let amounts = std::array::from_fn(|place| place as i64 - 25);
+        let exported = Call::Export { amounts, period: [0, 1, 2] };
+        assert_eq!(Call::decode(70, &numbers), Some(exported));
+        assert_eq!(Call::decode(70, &numbers[..223]), None);
+        for bytes in [vec![], vec![0], vec![0; 40_979]] {
+            assert_eq!(Call::decode(73, &bytes), Some(Call::FillWorkbook { bytes }));
+        }
+    }
+
+    #[test]
+    fn fields_of_cells() {
+        let cells: Vec<u8> = (0..28u8).flat_map(|i| [i % 3, 0, 0, 0, 0, 0, 0, 1, i]).collect();
+        let Some(Call::ReadCells { cells: read }) = Call::decode(71, &cells) else { panic!() };
+        assert_eq!((read[4].kind, read[4].bits), (1, 260));
+        assert_eq!((read[27].kind, read[27].bits), (0, 283));
+        assert_eq!(Call::decode(71, &cells[..251]), None);
+        assert_eq!(Call::decode(71, &[&cells[..], &[0]].concat()), None);
+        for place in [0, 9, 243] {
+            let mut bad = cells.clone();
+            bad[place] = 3;
+            assert_eq!(Call::decode(71, &bad), None);
+        }
+        let printed = |kind| Call::decode(72, &[0, 0, 1, 2, kind, 0, 0, 0, 0, 0, 0, 0, 9]);
+        let cell = CellBits { kind: 2, bits: 9 };
+        assert_eq!(printed(2), Some(Call::PrintCell { index: 258, cell }));
+        assert!(printed(0).is_some() && printed(3).is_none() && printed(255).is_none());
+        assert_eq!(Call::decode(72, &[0; 12]), None);
+    }
+
+    #[test]
+    fn an_empty_cell_does_not_look_at_its_bits() {
+        let cell = |kind, bits| CellBits { kind, bits };
+        assert_eq!(cell(0, 7).cell(), Cell::Empty);
+        assert_eq!(cell(0, 7), cell(0, 0));
+        assert!(cell(1, 7) != cell(1, 0) && cell(1, 7) != cell(2, 7));
+        for kept in [cell(0, 0), cell(1, 1.5f64.to_bits()), cell(2, 61f64.to_bits())] {
+            assert_eq!(CellBits::of(&kept.cell()), kept);
         }
     }
 }

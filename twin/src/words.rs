@@ -1,5 +1,6 @@
 //! Calls as readable text, a call to a line.
 
+use crate::floats::{cell_words, float_bits, float_words};
 use crate::model::assessment::Row;
 use crate::model::book::Book;
 use crate::model::calendar::{day_number, minute_of_date};
@@ -8,8 +9,9 @@ use crate::model::log::{Slot, SLOTS};
 use crate::model::plan::Plan;
 use crate::model::settlement::Period;
 use crate::model::sheet::{joined, Piece};
+use crate::model::workbook::{AMOUNTS, CELLS};
 use crate::model::year::{Line, LINES};
-use crate::script::{Call, YearFields, KEPT};
+use crate::script::{Call, CellBits, PeriodBits, YearFields, KEPT};
 
 /// The word for a tag.
 pub fn word(tag: u8) -> &'static str {
@@ -62,6 +64,12 @@ pub fn word(tag: u8) -> &'static str {
         65 => "enter-plan",
         66 => "read-plan",
         67 => "write-plan",
+        68 => "make-period",
+        69 => "gap-of-medians",
+        70 => "export",
+        71 => "read-cells",
+        72 => "print-cell",
+        73 => "fill-workbook",
         _ => "?",
     }
 }
@@ -200,6 +208,42 @@ impl<'a> Words<'a> {
 
     fn period(&mut self) -> Result<Period, String> {
         Ok(Period { first: self.day("the first day")?, last: self.day("the last day")? })
+    }
+
+    fn float(&mut self, what: &str) -> Result<u64, String> {
+        let text = self.next(what)?;
+        float_bits(text).ok_or(format!("{what} is no float: {text}"))
+    }
+
+    /// The three floats of a workbook's period.
+    fn floats(&mut self) -> Result<PeriodBits, String> {
+        Ok([self.float("the first day")?, self.float("the last day")?, self.float("the median")?])
+    }
+
+    /// A cell: `empty`, or `number` or `day` and a float.
+    fn cell(&mut self) -> Result<CellBits, String> {
+        match self.next("a cell")? {
+            "empty" => Ok(CellBits { kind: 0, bits: 0 }),
+            "number" => Ok(CellBits { kind: 1, bits: self.float("the number")? }),
+            "day" => Ok(CellBits { kind: 2, bits: self.float("the day")? }),
+            other => Err(format!("a cell is empty, a number or a day, not {other}")),
+        }
+    }
+
+    fn amounts(&mut self) -> Result<[i64; AMOUNTS], String> {
+        let mut amounts = [0; AMOUNTS];
+        for amount in &mut amounts {
+            *amount = self.number("an amount")?;
+        }
+        Ok(amounts)
+    }
+
+    fn cells(&mut self) -> Result<Box<[CellBits; CELLS]>, String> {
+        let mut cells = Box::new([CellBits::default(); CELLS]);
+        for cell in cells.iter_mut() {
+            *cell = self.cell()?;
+        }
+        Ok(cells)
     }
 
     /// Whether a piece of a day sheet is marked as continued.
@@ -428,6 +472,15 @@ fn parse_call(words: &mut Words) -> Result<Call, String> {
         "enter-plan" => Call::EnterPlan { plan: words.plan()? },
         "read-plan" => Call::ReadPlan { bytes: words.bytes()? },
         "write-plan" => Call::WritePlan { plan: words.plan()?, room: words.number("the room")? },
+        "make-period" => {
+            let Period { first, last } = words.period()?;
+            Call::MakePeriod { first, last }
+        }
+        "gap-of-medians" => Call::GapOfMedians { earlier: words.floats()?, later: words.floats()? },
+        "export" => Call::Export { amounts: words.amounts()?, period: words.floats()? },
+        "read-cells" => Call::ReadCells { cells: words.cells()? },
+        "print-cell" => Call::PrintCell { index: words.number("the index")?, cell: words.cell()? },
+        "fill-workbook" => Call::FillWorkbook { bytes: words.bytes()? },
         other => return Err(format!("no such call: {other}")),
     })
 }
@@ -440,6 +493,10 @@ fn outage_words(outage: &Slot) -> String {
 fn plan_words(plan: &Plan) -> String {
     let start = time_words(plan.start as i128);
     format!("{start} {} {} {} {}", plan.length, plan.step, plan.count, plan.mw)
+}
+
+fn floats_words(period: &PeriodBits) -> String {
+    period.map(float_words).join(" ")
 }
 
 fn days_words(earlier: &Period, later: &Period) -> String {
@@ -480,9 +537,10 @@ pub fn call_words(call: &Call) -> String {
         Call::Read { k, bytes } => format!("{k} {}", hexadecimal(bytes)),
         Call::Write { k, room } | Call::ShowWrite { k, room } => format!("{k} {room}"),
         Call::Refile { room, bytes } => format!("{room} {}", hexadecimal(bytes)),
-        Call::Print { bytes } | Call::Keep { bytes } | Call::ReadPlan { bytes } => {
-            hexadecimal(bytes)
-        }
+        Call::Print { bytes }
+        | Call::Keep { bytes }
+        | Call::ReadPlan { bytes }
+        | Call::FillWorkbook { bytes } => hexadecimal(bytes),
         Call::RefileKept { room } | Call::WriteSheet { room } => room.to_string(),
         Call::ReadSheet { regime_end, bytes } => {
             format!("{} {}", time(regime_end), hexadecimal(bytes))
@@ -518,6 +576,19 @@ pub fn call_words(call: &Call) -> String {
         }
         Call::EnterPlan { plan } => plan_words(plan),
         Call::WritePlan { plan, room } => format!("{} {room}", plan_words(plan)),
+        Call::MakePeriod { first, last } => format!("{first} {last}"),
+        Call::GapOfMedians { earlier, later } => {
+            format!("{}  {}", floats_words(earlier), floats_words(later))
+        }
+        Call::Export { amounts, period } => {
+            format!(
+                "{}  {}",
+                amounts.map(|amount| amount.to_string()).join(" "),
+                floats_words(period)
+            )
+        }
+        Call::ReadCells { cells } => cells.iter().map(cell_words).collect::<Vec<_>>().join("  "),
+        Call::PrintCell { index, cell } => format!("{index} {}", cell_words(cell)),
     };
     format!("{} {rest}", word(call.tag())).trim_end().to_string()
 }
@@ -588,6 +659,44 @@ mod tests {
     }
 
     #[test]
+    fn workbooks_in_words() {
+        let made = Call::MakePeriod { first: 44_927, last: 45_291 };
+        for words in ["make-period 2023-01-01 2023-12-31", "make-period 44927 45291"] {
+            assert_eq!(parse_line(words), Ok(vec![made.clone()]));
+        }
+        assert_eq!(call_words(&made), "make-period 44927 45291");
+        let bits = |float: f64| float.to_bits();
+        let earlier = [bits(61.0), bits(62.0), bits(61.5)];
+        let later = [bits(-0.0), 0x7ff8 << 48, bits(f64::NEG_INFINITY)];
+        let gap = Call::GapOfMedians { earlier, later };
+        assert_eq!(call_words(&gap), "gap-of-medians 61 62 61.5  -0 nan -inf");
+        let same = "gap-of-medians 61.0 62 0x404ec00000000000 -0.0 nan -inf";
+        assert_eq!(parse_line(same), Ok(vec![gap]));
+        let amounts = std::array::from_fn(|place| place as i64 - 3);
+        let exported = Call::Export { amounts, period: earlier };
+        let words = call_words(&exported);
+        assert!(words.starts_with("export -3 -2 ") && words.ends_with(" 20 21  61 62 61.5"));
+        assert_eq!(parse_line(&words), Ok(vec![exported]));
+        assert_eq!(
+            parse_line("fill-workbook 00x2 ff"),
+            Ok(vec![Call::FillWorkbook { bytes: vec![0, 0, 255] }]),
+        );
+    }
+
+    #[test]
+    fn cells_in_words() {
+        let cell = |kind, float: f64| CellBits { kind, bits: float.to_bits() };
+        let printed = |cell| Ok(vec![Call::PrintCell { index: 3, cell }]);
+        assert_eq!(parse_line("print-cell 3 empty"), printed(cell(0, 9.0)));
+        assert_eq!(parse_line("print-cell 3 number -0"), printed(cell(1, -0.0)));
+        assert_eq!(parse_line("print-cell 3 day 61.5"), printed(cell(2, 61.5)));
+        let row = format!("read-cells{}", " empty  day 61".repeat(14));
+        let calls = parse_line(&row).unwrap();
+        let Call::ReadCells { cells } = &calls[0] else { panic!() };
+        assert_eq!((cells[0], cells[27]), (cell(0, 0.0), cell(2, 61.0)));
+    }
+
+    #[test]
     fn wrong_lines() {
         for line in [
             "entre 1 2 3",
@@ -618,6 +727,20 @@ mod tests {
             "read-plan 123",
             "write-plan 0 1 1 1 1",
             "write-plan 0 1 1 1 1 4294967296",
+            "make-period 61",
+            "make-period 61 61.5",
+            "make-period 1900-02-28 61",
+            "gap-of-medians 61 61 61 61 61",
+            "gap-of-medians 61 61 61 61 61 1e3",
+            "export 1 2 3",
+            "print-cell 0",
+            "print-cell 0 1",
+            "print-cell 0 number",
+            "print-cell -1 empty",
+            "print-cell 0 empty 1",
+            "print-cell 4294967296 empty",
+            "read-cells empty empty",
+            "fill-workbook 123",
         ] {
             assert!(parse_line(line).is_err(), "{line}");
         }

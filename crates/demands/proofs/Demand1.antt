@@ -6,13 +6,13 @@ use Prim.Native.Nat.{ℕ, _≤_}
 use native.Mathlib.Nat.{not-suc-le-zero}
 use native.Mathlib.Omega.{arith}
 use lib.IntN.{pos, natAbs, _-ℤ_}
-use lib.ListN.{length, drop}
+use lib.ListN.{length, drop, replicate}
 use Rattle.lists.specs.Lists.{padded}
 use Rattle.lists.proofs.Tests.{not-no}
 use Rattle.refusals.specs.declared.Refusal.{Refusal}
-use Rattle.refusals.specs.declared.Refusal.the-variants.{BrokenLog, BadSpan, BadPower, SharedMinute, FullLog, NoSuchStart, BadStretch, BadBook, BadYear, FloorAboveCap, TooLarge, BadPeriod, Malformed, NoRoom, BadPiece, ClosedTime, BadPlan}
+use Rattle.refusals.specs.declared.Refusal.the-variants.{BrokenLog, BadSpan, BadPower, SharedMinute, FullLog, NoSuchStart, BadStretch, BadBook, BadYear, FloorAboveCap, TooLarge, BadPeriod, Malformed, NoRoom, BadPiece, ClosedTime, BadPlan, BadCell}
 use Rattle.refusals.specs.Refusals.{firstApplicable, refusalNumber, answerNumber, writtenNumber, lengthFigure}
-use Rattle.refusals.proofs.Laws.{same-refusal, all-clear, beside-refused}
+use Rattle.refusals.proofs.Laws.{same-refusal, all-clear, beside-accepted, beside-refused}
 use Rattle.calendar.specs.Years.{yearStart, yearEnd, minutesRows, minutesNumber, firstFigure, endFigure}
 use Rattle.calendar.proofs.Only.{one-minutes}
 use Rattle.entries.specs.declared.Entry.{Entry}
@@ -47,6 +47,17 @@ use Rattle.settlement.specs.Gap.{daySum, hundredths}
 use Rattle.settlement.specs.Growth.{growthOf, paidOf}
 use Rattle.settlement.specs.Calls.{gapRows, gapNumber, gapFigure, growthRows, growthNumber, growthFigure, payRows, payNumber, payFigure, settleRows}
 use Rattle.settlement.proofs.Only.{one-gap, one-growth, one-pay, one-settle, one-reconcile}
+use Rattle.median_period.specs.Medians.{daysOf, mediansOf, noMedians}
+use Rattle.median_period.specs.Calls.{makeRows, mediansGapRows}
+use Rattle.median_period.proofs.Only.{one-make, one-medians-gap}
+use Rattle.cells.specs.Cells.{emptySlot}
+use Rattle.workbook_cells.specs.Workbook.{exported, firstBad}
+use Rattle.workbook_cells.specs.Calls.{exportRows, readCellsRows, amountsIn, periodIn}
+use Rattle.workbook_cells.proofs.Only.{one-export, one-read-cells}
+use Rattle.cell_printout.specs.Printout.{cellLine, printCellRows}
+use Rattle.cell_printout.proofs.Only.{one-print-cell}
+use Rattle.workbook_input.proofs.Only.{one-read-workbook}
+use Rattle.workbook_filling.proofs.Only.{one-fill}
 use Rattle.text.specs.Text.{textOf}
 use Rattle.codec.specs.Message as Message
 use Rattle.sheet_printout.specs.Dates.{momentOf, outageLine}
@@ -62,9 +73,10 @@ use Rattle.return_refiling.specs.Refiled.{refileRows}
 use Rattle.return_refiling.proofs.Only.{one-refile}
 use Rattle.return_printout.proofs.Only.{one-print}
 use Rattle.demands.specs.Demand1.{Demand1}
+use Rattle.demands.proofs.Workbooks.{export-nine, export-twelve, cells-bad, cells-first, input-refused, fill-empty}
 use Rattle.demands.proofs.Sheets.{clear-whole}
 
-numbers : (why : Refusal) → (1 ≤ refusalNumber why) × (refusalNumber why ≤ 17)
+numbers : (why : Refusal) → (1 ≤ refusalNumber why) × (refusalNumber why ≤ 18)
 numbers BrokenLog = omega arith
 numbers BadSpan = omega arith
 numbers BadPower = omega arith
@@ -82,6 +94,7 @@ numbers NoRoom = omega arith
 numbers BadPiece = omega arith
 numbers ClosedTime = omega arith
 numbers BadPlan = omega arith
+numbers BadCell = omega arith
 
 -- ---- a message, by what was found
 module _ {M : Type 0} (none : M) where
@@ -151,6 +164,13 @@ demand-1 = record {
   write-plan = one-write-plan;
   print-minute = one-print-minute;
   print-outage = one-print-outage;
+  make-period = one-make;
+  medians-gap = one-medians-gap;
+  export = one-export;
+  read-cells = one-read-cells;
+  print-cell = one-print-cell;
+  read-workbook = one-read-workbook;
+  fill = one-fill;
   enter-checks = λ l e r g v. g .0 ∙ rw v refl;
   cancel-checks = λ l key r g v. g .0 ∙ rw v refl;
   close-checks = λ l m r g v. g .0 ∙ rw v refl;
@@ -167,6 +187,9 @@ demand-1 = record {
   write-checks = λ y out r o g v. g .0 ∙ rw v refl;
   read-sheet-checks = λ re bs r g b. (g .0 ∙ rw b refl, g .1 ∙ rw b refl);
   write-sheet-checks = λ l out r o g v. g .0 ∙ rw v refl;
+  export-checks = λ amounts p r g. (export-nine amounts p r g, export-twelve amounts p r g);
+  read-cells-checks = cells-bad;
+  read-cells-first = cells-first;
   numbered = numbers;
   fixed = same-refusal;
   enter-refused = λ l e r g n. beside-refused (enterRows l e) (answerNumber (r .answer)) (r .log) (logWith l (putInOrder e (logEntries l))) l (g .0) (g .1) n;
@@ -219,6 +242,17 @@ demand-1 = record {
       (g .3 ∙ ap length none, g .2 ∙ ap (padded mostOutages zeroEntry) none);
   read-plan-refused = λ bs r g n. g .2 ∙ refused-value noPlan (planReading bs) (answerNumber (r .answer)) (g .0) n;
   read-plan-accepted = λ bs r g n. g .1 ∙ accepted-place (planReading bs) (answerNumber (r .answer)) (g .0) n;
+  make-period-refused = λ first last r g n. beside-refused (makeRows first last) (answerNumber (r .answer)) (r .period) (mediansOf first last) noMedians (g .0) (g .1) n;
+  medians-gap-refused = λ earlier later r g n. beside-refused (mediansGapRows earlier later) (gapNumber r) (gapFigure r) (natAbs (hundredths (daySum (daysOf earlier)) (daySum (daysOf later)))) 0 (g .0) (g .1) n;
+  export-refused = λ amounts p r g n. beside-refused (exportRows amounts p) (answerNumber (r .answer)) (r .slots) (exported amounts p) (replicate 28 emptySlot) (g .0) (g .1) n;
+  read-cells-refused = λ cells r g n. (
+    beside-refused (readCellsRows cells) (answerNumber (r .answer)) (r .amounts) (amountsIn cells) (replicate 25 (pos 0)) (g .0) (g .2) n,
+    beside-refused (readCellsRows cells) (answerNumber (r .answer)) (r .period) (periodIn cells) noMedians (g .0) (g .3) n,
+  );
+  read-cells-accepted = λ cells r g n. beside-accepted (readCellsRows cells) (answerNumber (r .answer)) (r .index) 0 (firstBad cells) (g .0) (g .1) n;
+  read-workbook-refused = input-refused;
+  fill-refused = fill-empty;
+  print-cell-refused = λ index cell r g n. beside-refused (printCellRows index cell) (answerNumber (r .answer)) (r .text) (textOf (cellLine index cell)) (textOf []) (g .0) (g .1) n;
   print-minute-refused = λ minute r g n. beside-refused (printMinuteRows minute) (answerNumber (r .answer)) (r .text) (textOf (momentOf minute)) (textOf []) (g .0) (g .1) n;
   print-outage-refused = λ e r g n. beside-refused (printOutageRows e) (answerNumber (r .answer)) (r .text) (textOf (outageLine e)) (textOf []) (g .0) (g .1) n;
 }

@@ -60,6 +60,8 @@ use Rattle.sheet_format.specs.Sheet.{readSheetRows}
 use Rattle.sheet_round_trip.specs.Sheets.{IsSheetOf}
 use Rattle.sheet_round_trip.proofs.Places.{sheet-read}
 use Rattle.sheet_round_trip.proofs.Places as sheets
+use Rattle.floats.proofs.Pounds.{out-and-back}
+use Rattle.workbook_cells.proofs.RoundTrip.{reads-back, comes-out}
 use Rattle.return_format.specs.declared.Return.{Return}
 use Rattle.return_format.specs.Return.{mostBytes, Reading, whole, refused, readingOf, isRefused, placeIn, returnOf, writeRows}
 use Rattle.return_round_trip.specs.Flat.{fieldsOf}
@@ -76,6 +78,7 @@ use Rattle.demands.specs.Demand2.{Carried, NearSums, Demand2}
 use Rattle.demands.proofs.Lost.{first-is, end-is, year-lost, year-most}
 use Rattle.demands.proofs.Returns.{written-reads-back, read-writes-back}
 use Rattle.demands.proofs.PlanMessages.{plan-reads-back, plan-is, is-read, plan-writes-back, plan-refused-at, plan-one-of-three, plan-longer-is, plan-alone}
+use Rattle.demands.proofs.Workbooks.{made-exact, same-gap, filled-figures}
 use Rattle.demands.proofs.Sheets.{sheet-is, sheet-reads-back, sheet-writes-back, sheet-refused-at, sheet-not-longer, sheet-cut-same}
 
 -- ---- levels
@@ -290,6 +293,12 @@ demand-2 = record {
   plan-place = plan-refused-at;
   plan-places = plan-one-of-three;
   plan-longer = plan-longer-is;
+  period-exact = made-exact;
+  medians-gap = same-gap;
+  whole-pounds = out-and-back;
+  exported-read = λ amounts l p e g z r h. reads-back amounts p e r l g z h;
+  read-exported = λ cells f r h z e g. comes-out cells r e f h z g;
+  filled = filled-figures;
   date = λ minute r g n. (
     beside-accepted (printMinuteRows minute) (answerNumber (r .answer)) (r .text) (textOf (momentOf minute)) (textOf []) (g .0) (g .1) n,
     right-date minute (ltb-false lastRegimeEnd minute (all-clear (printMinuteRows minute) (sym (g .0) ∙ n) .0)),

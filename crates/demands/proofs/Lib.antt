@@ -12,3 +12,4 @@ pub mod Figures
 pub mod Sheets
 pub mod Plans
 pub mod PlanMessages
+pub mod Workbooks

@@ -33,7 +33,7 @@ use Rattle.demands.specs.Plans.{EntersAll, FailsAt, Plans}
 use Rattle.demands.proofs.Sheets.{ran-more, after-more, events-more}
 
 -- ---- one entry more
-enters-more : (log stands : Log) (es : List Entry) (e : Entry) → EntersAll log es stands → firstApplicable (enterRows stands e) ≡ 0 → EntersAll log (es ++ (e ∷ [])) (enterLog stands e)
+pub enters-more : (log stands : Log) (es : List Entry) (e : Entry) → EntersAll log es stands → firstApplicable (enterRows stands e) ≡ 0 → EntersAll log (es ++ (e ∷ [])) (enterLog stands e)
 enters-more log stands es e i n =
     let o = one-enter stands e in
     let turn : List Turn = (entering e, o .result) ∷ [] in
@@ -47,7 +47,7 @@ enters-more log stands es e i n =
       gives = after-more log (i .turns) turn ∙ o .meets .1;
     }
 
-no-entries : (log : Log) → EntersAll log [] log
+pub no-entries : (log : Log) → EntersAll log [] log
 no-entries log = record { turns = []; calls = refl; ran = tt; events = refl; gives = refl }
 
 -- ---- an accepted plan

@@ -4,7 +4,8 @@
 use mathlib.Core.Path.{_≡_}
 use mathlib.Core.Bool.{true, false}
 use mathlib.Core.List.{List, []}
-use Prim.Native.Nat.{ℕ, _≤_}
+use Prim.Native.Nat.{ℕ, _≤_, _<_}
+use lib.ListN.{replicate}
 use lib.IntN.{ℤ, pos}
 use Rattle.lists.specs.Lists.{padded}
 use Rattle.refusals.specs.declared.Refusal.{Refusal}
@@ -47,6 +48,22 @@ use Rattle.settlement.specs.declared.medians.Gap.{Gap}
 use Rattle.settlement.specs.declared.table.Growth.{Growth}
 use Rattle.settlement.specs.declared.paying.Payment.{Payment}
 use Rattle.settlement.specs.Calls.{gapNumber, gapFigure, GapGives, growthNumber, growthFigure, GrowthGives, payNumber, payFigure, PayGives, SettleGives, ReconcileGives}
+use Rattle.median_period.specs.declared.MedianPeriod.{MedianPeriod}
+use Rattle.median_period.specs.declared.MadePeriod.{MadePeriod}
+use Rattle.median_period.specs.Medians.{goodMedians, noMedians}
+use Rattle.median_period.specs.Calls.{MakeGives, MediansGapGives}
+use Rattle.cells.specs.declared.Cell.{Cell}
+use Rattle.cells.specs.declared.Slot.{Slot}
+use Rattle.cells.specs.Cells.{goodAmount, emptySlot}
+use Rattle.workbook_cells.specs.declared.exporting.Exported.{Exported}
+use Rattle.workbook_cells.specs.declared.reading.CellsRead.{CellsRead}
+use Rattle.workbook_cells.specs.Workbook.{amountAt, badCell}
+use Rattle.workbook_cells.specs.Calls.{ExportGives, ReadCellsGives}
+use Rattle.cell_printout.specs.declared.CellLine.{CellLine}
+use Rattle.cell_printout.specs.Printout.{PrintCellGives}
+use Rattle.workbook_input.specs.declared.WorkbookInput.{WorkbookInput}
+use Rattle.workbook_input.specs.Calls.{ReadWorkbookGives}
+use Rattle.workbook_filling.specs.Filling.{FillGives}
 use Rattle.codec.specs.Theorems.{Bytes}
 use Rattle.text.specs.Text.{textOf}
 use Rattle.plan_message.specs.declared.PlanRead.{PlanRead}
@@ -102,6 +119,13 @@ pub record Demand1 : Type 0 where
   pub write-plan : (p : Plan) (out : List ℕ) → One (λ (r : Written × List ℕ). WritePlanGives p out (r .0) (r .1))
   pub print-minute : (minute : ℕ) → One (PrintMinuteGives minute)
   pub print-outage : (e : Entry) → One (PrintOutageGives e)
+  pub make-period : (first last : ℕ) → One (MakeGives first last)
+  pub medians-gap : (earlier later : MedianPeriod) → One (MediansGapGives earlier later)
+  pub export : (amounts : List ℤ) (p : MedianPeriod) → One (ExportGives amounts p)
+  pub read-cells : (cells : List Slot) → One (ReadCellsGives cells)
+  pub print-cell : (index : ℕ) (cell : Cell) → One (PrintCellGives index cell)
+  pub read-workbook : (bs : List ℕ) → One (ReadWorkbookGives bs)
+  pub fill : (bs : List ℕ) → One (FillGives bs)
   -- ---- "It checks what it is handed": a broken log is 1, a bad book 8 before it, a year or amounts out of range 9
   pub enter-checks : (log : Log) (e : Entry) (r : Logged) → EnterGives log e r → validLog log ≡ false → answerNumber (r .answer) ≡ 1
   pub cancel-checks : (log : Log) (key : Key) (r : Logged) → CancelGives log key r → validLog log ≡ false → answerNumber (r .answer) ≡ 1
@@ -119,8 +143,16 @@ pub record Demand1 : Type 0 where
   pub write-checks : (y : Year) (out : List ℕ) (r : Written) (o : List ℕ) → WriteGives y out r o → validLog (y .log) ≡ false → writtenNumber r ≡ 1
   pub read-sheet-checks : (regimeEnd : ℕ) (bs : List ℕ) (r : Sheet) → SheetGives regimeEnd bs r → goodRegimeEnd regimeEnd ≡ false → (answerNumber (r .answer) ≡ 8) × (r .place ≡ 0)
   pub write-sheet-checks : (log : Log) (out : List ℕ) (r : Written) (o : List ℕ) → WriteSheetGives log out r o → validLog log ≡ false → writtenNumber r ≡ 1
-  -- ---- "A refused call has a fixed number": 1 to 17, each for one refusal
-  pub numbered : (why : Refusal) → (1 ≤ refusalNumber why) × (refusalNumber why ≤ 17)
+  -- an exported yearly amount out of range is 9, and else a period that is not as a workbook keeps one 12
+  pub export-checks : (amounts : List ℤ) (p : MedianPeriod) (r : Exported) → ExportGives amounts p r
+      → ((i : ℕ) → i < 20 → goodAmount i (amountAt amounts i) ≡ false → answerNumber (r .answer) ≡ 9)
+      × (((i : ℕ) → i < 20 → goodAmount i (amountAt amounts i) ≡ true) → goodMedians p ≡ false → answerNumber (r .answer) ≡ 12)
+  -- cells are 18 exactly where one is bad, and the index is that of the first
+  pub read-cells-checks : (cells : List Slot) (r : CellsRead) → ReadCellsGives cells r → ((i : ℕ) → i < 28 → badCell cells i ≡ true → answerNumber (r .answer) ≡ 18)
+  pub read-cells-first : (cells : List Slot) (r : CellsRead) → ReadCellsGives cells r → (answerNumber (r .answer) ≡ 0 → ⊥)
+      → (badCell cells (r .index) ≡ true) × ((i : ℕ) → i < r .index → badCell cells i ≡ false)
+  -- ---- "A refused call has a fixed number": 1 to 18, each for one refusal
+  pub numbered : (why : Refusal) → (1 ≤ refusalNumber why) × (refusalNumber why ≤ 18)
   pub fixed : (why other : Refusal) → refusalNumber why ≡ refusalNumber other → why ≡ other
   -- ---- "gives back the log it got", to the last slot
   pub enter-refused : (log : Log) (e : Entry) (r : Logged) → EnterGives log e r → (answerNumber (r .answer) ≡ 0 → ⊥) → r .log ≡ log
@@ -159,6 +191,15 @@ pub record Demand1 : Type 0 where
   pub list-refused : (regimeEnd : ℕ) (p : Plan) (r : Listed) → ListGives regimeEnd p r → (answerNumber (r .answer) ≡ 0 → ⊥) → (r .count ≡ 0) × (r .entries ≡ padded mostOutages zeroEntry [])
   pub read-plan-refused : (bs : List ℕ) (r : PlanRead) → ReadPlanGives bs r → (answerNumber (r .answer) ≡ 0 → ⊥) → r .plan ≡ noPlan
   pub read-plan-accepted : (bs : List ℕ) (r : PlanRead) → ReadPlanGives bs r → answerNumber (r .answer) ≡ 0 → r .place ≡ 0
+  -- beside a refused export, and where nothing is filled, every cell is empty; beside cells that are refused, and beside an input, stand zeros
+  pub make-period-refused : (first last : ℕ) (r : MadePeriod) → MakeGives first last r → (answerNumber (r .answer) ≡ 0 → ⊥) → r .period ≡ noMedians
+  pub medians-gap-refused : (earlier later : MedianPeriod) (r : Gap) → MediansGapGives earlier later r → (gapNumber r ≡ 0 → ⊥) → gapFigure r ≡ 0
+  pub export-refused : (amounts : List ℤ) (p : MedianPeriod) (r : Exported) → ExportGives amounts p r → (answerNumber (r .answer) ≡ 0 → ⊥) → r .slots ≡ replicate 28 emptySlot
+  pub read-cells-refused : (cells : List Slot) (r : CellsRead) → ReadCellsGives cells r → (answerNumber (r .answer) ≡ 0 → ⊥) → (r .amounts ≡ replicate 25 (pos 0)) × (r .period ≡ noMedians)
+  pub read-cells-accepted : (cells : List Slot) (r : CellsRead) → ReadCellsGives cells r → answerNumber (r .answer) ≡ 0 → r .index ≡ 0
+  pub read-workbook-refused : (bs : List ℕ) (r : WorkbookInput) → ReadWorkbookGives bs r → (answerNumber (r .answer) ≡ 0 → ⊥) → (r .amounts ≡ replicate 25 (pos 0)) × (r .first ≡ 0) × (r .last ≡ 0)
+  pub fill-refused : (bs : List ℕ) (r : Exported) → FillGives bs r → (answerNumber (r .answer) ≡ 0 → ⊥) → r .slots ≡ replicate 28 emptySlot
+  pub print-cell-refused : (index : ℕ) (cell : Cell) (r : CellLine) → PrintCellGives index cell r → (answerNumber (r .answer) ≡ 0 → ⊥) → r .text ≡ textOf []
   -- and of a minute or an outage that is not printed an empty text
   pub print-minute-refused : (minute : ℕ) (r : Printed) → PrintMinuteGives minute r → (answerNumber (r .answer) ≡ 0 → ⊥) → r .text ≡ textOf []
   pub print-outage-refused : (e : Entry) (r : Printed) → PrintOutageGives e r → (answerNumber (r .answer) ≡ 0 → ⊥) → r .text ≡ textOf []

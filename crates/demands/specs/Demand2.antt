@@ -6,10 +6,12 @@ use mathlib.Core.Path.{_≡_}
 use mathlib.Core.Bool.{true}
 use mathlib.Core.List.{List, _++_}
 use mathlib.Core.Logic.{_⊎_}
+use mathlib.Core.Option.{some}
 use Prim.Native.Nat.{ℕ, suc, _+_, _-_, _*_, _/_, _^_, _≤_, _<_}
 use lib.Dec.{leb}
 use lib.ListN.{length, getD, take, drop}
 use lib.IntN.{ℤ, pos, natAbs, _+ℤ_, _-ℤ_, _*ℤ_}
+use lib.Ieee.{binary64, ofInt}
 use Rattle.lists.specs.Lists.{all}
 use Rattle.refusals.specs.Refusals.{answerNumber, writtenNumber}
 use Rattle.refusals.specs.declared.Answer.the-variants.{Done}
@@ -26,7 +28,7 @@ use Rattle.levels.specs.declared.Book.{Book}
 use Rattle.levels.specs.declared.measuring.Availability.{Availability}
 use Rattle.levels.specs.declared.measuring.Target.{Target}
 use Rattle.levels.specs.declared.levelling.Levels.{Levels}
-use Rattle.levels.specs.Book.{targetOf}
+use Rattle.levels.specs.Book.{targetOf, publishedBook}
 use Rattle.levels.specs.Availability.{availabilityNumber, availabilityFigure, AvailabilityGives, targetNumber, targetMet, TargetGives}
 use Rattle.levels.specs.Levels.{timesOf, aifOf, levelsNumber, capFigure, floorFigure, LevelsGives}
 use Rattle.revenue.specs.declared.Revenue.{Revenue}
@@ -46,6 +48,21 @@ use Rattle.settlement.specs.declared.paying.Payment.{Payment}
 use Rattle.settlement.specs.Gap.{daySum, hundredths}
 use Rattle.settlement.specs.Exact.{NearExact}
 use Rattle.settlement.specs.Calls.{gapNumber, gapFigure, GapGives, growthNumber, growthFigure, GrowthGives, payNumber, payFigure, PayGives, SettleGives, ReconcileGives}
+use Rattle.floats.specs.Floats.{wholePounds}
+use Rattle.median_period.specs.declared.MedianPeriod.{MedianPeriod}
+use Rattle.median_period.specs.declared.MadePeriod.{MadePeriod}
+use Rattle.median_period.specs.Medians.{daysOf, goodMedians, mediansOf}
+use Rattle.median_period.specs.Calls.{MakeGives, MediansGapGives}
+use Rattle.median_period.specs.Theorems.{ExactPeriod}
+use Rattle.cells.specs.declared.Slot.{Slot}
+use Rattle.workbook_cells.specs.declared.exporting.Exported.{Exported}
+use Rattle.workbook_cells.specs.declared.reading.CellsRead.{CellsRead}
+use Rattle.workbook_cells.specs.Workbook.{exported}
+use Rattle.workbook_cells.specs.Calls.{ExportGives, ReadCellsGives}
+use Rattle.workbook_cells.specs.Theorems.{CellsFit, ReadsBack, ComesOut}
+use Rattle.workbook_input.specs.Input.{firstDay, lastDay, inputYears}
+use Rattle.workbook_input.specs.Calls.{runningLog, yearlyAmounts, periodAmounts}
+use Rattle.workbook_filling.specs.Filling.{FillGives}
 use Rattle.codec.specs.Theorems.{Bytes}
 use Rattle.codec.specs.Theorems.{isWhole, joined}
 use Rattle.text.specs.Text.{textOf}
@@ -214,6 +231,22 @@ pub record Demand2 : Type 0 where
       → plans.RefusalPlace bs (t .place) × ((other : ℕ) → plans.RefusalPlace bs other → other ≡ t .place)
   pub plan-places : (bs : List ℕ) (t : PlanRead) → ReadPlanGives bs t → (answerNumber (t .answer) ≡ 0 → ⊥) → (t .place ≡ 0) ⊎ ((t .place ≡ 17) ⊎ (t .place ≡ 8192))
   pub plan-longer : (bs : List ℕ) (t : PlanRead) → ReadPlanGives bs t → mostBytes < length bs → (answerNumber (t .answer) ≡ 13) × (t .place ≡ mostBytes)
+  -- ---- rules 19.2 and 19.3: the period of two days is exact, its median too, and the gap of two periods is that of their days
+  pub period-exact : (first last : ℕ) (r : MadePeriod) → MakeGives first last r → answerNumber (r .answer) ≡ 0 → (r .period ≡ mediansOf first last) × ExactPeriod first last
+  pub medians-gap : (earlier later : MedianPeriod) → goodMedians earlier ≡ true → goodMedians later ≡ true → (r s : Gap)
+      → MediansGapGives earlier later r → GapGives (daysOf earlier) (daysOf later) s → r ≡ s
+  -- ---- rule 19.5: whole pounds go out and come back without loss
+  pub whole-pounds : (z : ℤ) → natAbs z ≤ 30000000000 → wholePounds (ofInt binary64 z) ≡ some z
+  -- ---- rule 19.8: what is exported reads back as itself, and what is read and exported gives the same cells, but for zeros
+  pub exported-read : (amounts : List ℤ) → length amounts ≡ 25 → (p : MedianPeriod) (e : Exported) → ExportGives amounts p e → answerNumber (e .answer) ≡ 0
+      → (r : CellsRead) → ReadCellsGives (e .slots) r → ReadsBack amounts p r
+  pub read-exported : (cells : List Slot) → CellsFit cells → (r : CellsRead) → ReadCellsGives cells r → answerNumber (r .answer) ≡ 0
+      → (e : Exported) → ExportGives (r .amounts) (r .period) e → ComesOut cells e
+  -- ---- rule 20.2: a filled workbook has the figures of the assessment of its five years, and each year's
+  pub filled : (bs : List ℕ) (years : List Year) → inputYears bs ≡ some years → (r : Exported) → FillGives bs r → answerNumber (r .answer) ≡ 0
+      → (a : Assessment) → PeriodGives publishedBook years (runningLog years) a
+      → (assessNumber a ≡ 0)
+      × (r .slots ≡ exported (yearlyAmounts (runningLog years) years ++ periodAmounts (assessFigures a)) (mediansOf (firstDay bs) (lastDay bs)))
   -- rule 16.1: what is printed of a minute is its date and time, and that of no other minute
   pub date : (minute : ℕ) (r : Printed) → PrintMinuteGives minute r → answerNumber (r .answer) ≡ 0 → (r .text ≡ textOf (momentOf minute)) × RightDate minute
   pub one-minute : (a b : ℕ) → a ≤ lastRegimeEnd → b ≤ lastRegimeEnd → SameFigures a b → a ≡ b

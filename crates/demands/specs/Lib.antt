@@ -7,4 +7,5 @@ pub mod Demand3
 pub mod Closed
 pub mod Sheets
 pub mod Plans
+pub mod Workbooks
 pub mod Figures

@@ -9,7 +9,7 @@ use borrow.Author.Tests.{eq-eqb, ne-eqb, eqb-true}
 use lib.Dec.{eqb}
 use lib.ListN.{getD}
 use Rattle.refusals.specs.declared.Refusal.{Refusal}
-use Rattle.refusals.specs.declared.Refusal.the-variants.{BrokenLog, BadSpan, BadPower, SharedMinute, FullLog, NoSuchStart, BadStretch, BadBook, BadYear, FloorAboveCap, TooLarge, BadPeriod, Malformed, NoRoom, BadPiece, ClosedTime, BadPlan}
+use Rattle.refusals.specs.declared.Refusal.the-variants.{BrokenLog, BadSpan, BadPower, SharedMinute, FullLog, NoSuchStart, BadStretch, BadBook, BadYear, FloorAboveCap, TooLarge, BadPeriod, Malformed, NoRoom, BadPiece, ClosedTime, BadPlan, BadCell}
 use Rattle.refusals.specs.declared.Answer.{Answer}
 use Rattle.refusals.specs.declared.Answer.the-variants.{Done, Refused}
 use Rattle.refusals.specs.Refusals.{refusalNumber, answerNumber, firstApplicable, accepted, Rows}
@@ -35,6 +35,7 @@ byNumber =
     ∷ BadPiece
     ∷ ClosedTime
     ∷ BadPlan
+    ∷ BadCell
     ∷ []
 
 named : ℕ → Refusal
@@ -60,6 +61,7 @@ named-number NoRoom = refl
 named-number BadPiece = refl
 named-number ClosedTime = refl
 named-number BadPlan = refl
+named-number BadCell = refl
 
 pub same-refusal : (r s : Refusal) → refusalNumber r ≡ refusalNumber s → r ≡ s
 same-refusal r s e = sym (named-number r) ∙ ap named e ∙ named-number s
@@ -82,6 +84,7 @@ never-zero NoRoom = omega arith
 never-zero BadPiece = omega arith
 never-zero ClosedTime = omega arith
 never-zero BadPlan = omega arith
+never-zero BadCell = omega arith
 
 pub same-answer : (a b : Answer) → answerNumber a ≡ answerNumber b → a ≡ b
 same-answer Done Done e = refl

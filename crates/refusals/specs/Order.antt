@@ -4,7 +4,7 @@ use mathlib.Core.List.{List, [], _∷_}
 use lib.Dec.{eqb}
 use Rattle.refusals.specs.Refusals.{Rows, refusalNumber}
 use Rattle.refusals.specs.declared.Refusal.{Refusal}
-use Rattle.refusals.specs.declared.Refusal.the-variants.{BrokenLog, BadSpan, BadPower, SharedMinute, FullLog, NoSuchStart, BadStretch, BadBook, BadYear, FloorAboveCap, TooLarge, BadPeriod, Malformed, NoRoom, BadPiece, ClosedTime, BadPlan}
+use Rattle.refusals.specs.declared.Refusal.the-variants.{BrokenLog, BadSpan, BadPower, SharedMinute, FullLog, NoSuchStart, BadStretch, BadBook, BadYear, FloorAboveCap, TooLarge, BadPeriod, Malformed, NoRoom, BadPiece, ClosedTime, BadPlan, BadCell}
 
 -- rule 12.2: the order in which they are looked for
 abbrev pub inTurn : List Refusal
@@ -26,6 +26,10 @@ inTurn =
     ∷ Malformed
     ∷ NoRoom
     ∷ []
+
+-- rule 12.2: 18 is looked for alone
+abbrev pub inCells : List Refusal
+inCells = BadCell ∷ []
 
 -- rules 12.2 and 15.4: on a day sheet the regime end first, and then each piece has an order of its own
 abbrev pub onSheets : List Refusal

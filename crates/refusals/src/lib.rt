@@ -37,6 +37,8 @@ pub enum Refusal {
     ClosedTime,
     // 17: the count, the step or the window of a plan is out of range
     BadPlan,
+    // 18: a cell of a workbook is bad
+    BadCell,
 }
 
 // The answer of a call that gives nothing else.
@@ -74,6 +76,7 @@ impl Refusal {
             Refusal::BadPiece => 15,
             Refusal::ClosedTime => 16,
             Refusal::BadPlan => 17,
+            Refusal::BadCell => 18,
         }
     }
 }

@@ -9,6 +9,7 @@ use super::returns;
 use super::setting;
 use super::sheets;
 use super::showing;
+use super::workbooks;
 use codec::number;
 use levels::Book;
 use outage::Log;
@@ -20,7 +21,7 @@ pub(crate) struct AfterSet {
     pub(crate) done: bool,
 }
 
-// The call as the tables have it, or 0 where a slot, a line, a mark or the place of a year is missing or none.
+// The call as the tables have it, or 0 where a slot, a line, a mark, the place of a year or the kind of a cell is missing or none.
 pub(crate) fn listed(call: u64, s: &[u8]) -> u64 {
     match call / 100_000 {
         17 => fitting(17_99999, 0 < s.len()),
@@ -30,6 +31,8 @@ pub(crate) fn listed(call: u64, s: &[u8]) -> u64 {
         36 => fitting(call, number(s, 1, 1) < 64),
         39 => fitting(call, number(s, 0, 1) < 5),
         40 => 40_99999,
+        71 => fitting(call, workbooks::good_kinds(s)),
+        72 => fitting(call, number(s, 4, 1) < 3),
         _ => call,
     }
 }
@@ -123,6 +126,11 @@ fn ask_of_value(call: u64, s: &[u8]) -> bool {
         27_00010 => sheets::outage(s),
         64_00018 => plans::list(s),
         67_00018 => plans::write(s),
+        68_00008 => workbooks::make(s),
+        69_00048 => workbooks::gap(s),
+        70_00224 => workbooks::export(s),
+        71_00252 => workbooks::read(s),
+        72_00013 => workbooks::print(s),
         _ => ask_at_length(call / 100_000, s),
     }
 }
@@ -132,6 +140,7 @@ fn ask_at_length(tag: u64, s: &[u8]) -> bool {
         19 => returns::refile(s),
         20 => returns::print(s),
         66 => plans::read(s),
+        73 => workbooks::fill(s),
         _ => false,
     }
 }

@@ -1,5 +1,6 @@
 // Carries out a script of calls on standard input and prints every answer: docs/REPLAY.md.
 mod asking;
+mod bits;
 mod calls;
 mod fields;
 mod plans;
@@ -9,6 +10,7 @@ mod setting;
 mod sheets;
 mod showing;
 mod sums;
+mod workbooks;
 
 use calls::ask;
 use calls::listed;

@@ -17,9 +17,10 @@ use year::Year;
 ghost use mathlib.Core.Path.{_≡_};
 ghost use mathlib.Core.Bool.{true};
 ghost use mathlib.Core.List.{[]};
+ghost use Prim.Native.Nat.{_≤_};
 ghost use Rattle.refusals.specs.Refusals.{refusalNumber};
 ghost use Rattle.outage.specs.Calls.{lostOf};
-ghost use Rattle.text.specs.Text.{decimal, pushed, signedDecimal, textOf};
+ghost use Rattle.text.specs.Text.{decimal, pushed, room, signedDecimal, textOf};
 ghost use Rattle.return_format.specs.Return.{validYear};
 ghost use Rattle.return_printout.specs.Printout.{lineOf, lostAfter, lostInYear, printedYear, refusalOf, yearLines, PrintGives};
 
@@ -46,6 +47,13 @@ fn refusal(why: Refusal) -> Text
     ensures { λ r. ⌜ r ≡ pushed (textOf []) (refusalOf (refusalNumber why)) ⌝ }
 {
     with_line(Text::empty(), b"refused ", why.number() as u64)
+}
+
+// The line of a refusal, which `workbook` prints too: rules 11.2 and 20.4.
+pub fn print_refusal(why: Refusal) -> Text
+    ensures { λ r. ⌜ (r ≡ textOf (refusalOf (refusalNumber why))) × (r .length ≤ room) ⌝ }
+{
+    refusal(why)
 }
 
 // MW-minutes lost from minute a to minute b, 0 beside a refusal.

@@ -1,12 +1,13 @@
 -- Bytes put at the end of a text, and numbers in decimal. Assumes nothing.
 use mathlib.Core.Path.{_≡_, refl, sym, ap, _∙_}
-use mathlib.Core.Bool.{true, false}
+use mathlib.Core.Bool.{Bool, true, false, cond}
 use mathlib.Core.Logic.{⊎-elim}
 use mathlib.Core.List.{List, [], _∷_, _++_, append-nil}
 use Prim.Native.Nat.{ℕ, zero, suc, _+_, _-_, _*_, _/_, _%_, _^_, _≤_, _<_}
 use native.Mathlib.Omega.{arith}
 use native.Mathlib.Nat.{pow-suc, div-add-mod', div-lt-iff-lt-mul}
 use borrow.Author.Tests.{ltb-true, lt-ltb, le-ltb}
+use lib.Dec.{ltb}
 use lib.IntN.{ℤ, pos, negsuc, natAbs}
 use lib.Signed.{ltZ}
 use lib.ListN.{length, length-append}
@@ -63,6 +64,16 @@ tenth n i h = div-lt-iff-lt-mul {k = 10} {x = n} {y = 10 ^ i} (omega arith) .1 (
 long : (n i : ℕ) → 10 ≤ n → n < 10 ^ suc i → 1 ≤ i
 long n zero l h = omega arith
 long n (suc i) l h = omega arith
+
+-- k digits are at most k
+pub digits-most : (k n : ℕ) → length (digits k n) ≤ k
+unfolding digits
+digits-most zero n = omega arith
+digits-most (suc k) n = by (ltb n 10) (digits-most k (n / 10))
+  where
+    by : (b : Bool) → length (digits k (n / 10)) ≤ k → length (cond b ((48 + n) ∷ []) (digits k (n / 10) ++ ((48 + n % 10) ∷ []))) ≤ suc k
+    by true h = omega arith
+    by false h = omega (arith, length-append (digits k (n / 10)) ((48 + n % 10) ∷ []))
 
 -- a number below ten to the j has at most j digits
 pub digits-few : (k n j : ℕ) → 1 ≤ j → n < 10 ^ j → length (digits k n) ≤ j

@@ -121,7 +121,7 @@ impl Generator {
         } else {
             (self.any_period(), self.any_period())
         };
-        match self.random.below(46) {
+        match self.random.below(50) {
             0 => Call::Empty { regime_end: self.any_u32() },
             1 => Call::Enter { outage: self.any_outage() },
             2 => Call::Cancel { start: self.any_u32() },
@@ -165,6 +165,7 @@ impl Generator {
             34 => Call::Close { minute: self.any_closing() },
             35 => Call::SetClosed { minute: self.any_closing() },
             36..=39 => self.any_plan_call(),
+            40..=43 => self.any_workbook_call(),
             _ => self.any_sheet_call(),
         }
     }

@@ -274,7 +274,7 @@ impl Generator {
     /// A plan on a log that it fills exactly, or nearly, or has one outage too
     /// many for. The entries held stand between the plan's windows.
     fn plan_by_room(&mut self, regime_end: u32) {
-        let held = self.random.pick(&[1, 1, 2, 200, 398, 399, 399, 400]);
+        let held = self.random.pick(&[1, 1, 2, 200, 398, 398, 398, 399, 399, 400]);
         let first = self.random.between(0, 11_000_000) as u32;
         let holding = Plan { start: first, length: 1, step: 1, count: held, mw: 1 };
         self.call(Call::Empty { regime_end });

@@ -361,7 +361,7 @@ impl Generator {
     }
 
     /// Bytes changed, cut, lengths changed, bytes too many.
-    fn damage_bytes(&mut self, mut bytes: Vec<u8>) -> Vec<u8> {
+    pub fn damage_bytes(&mut self, mut bytes: Vec<u8>) -> Vec<u8> {
         let length = bytes.len() as u64;
         match self.random.below(9) {
             0 | 1 => {

@@ -315,7 +315,7 @@ impl Random {
             4 => fields.pyc = self.pick(&[10_001, 65_535]),
             5 => fields.pyf = self.pick(&[10_001, 65_535]),
             6 => fields.w = self.bad_amount(),
-            7 => fields.line_count += 1,
+            7 => fields.line_count = fields.line_count.saturating_add(1),
             _ => fields.line_count = self.pick(&[65, u64::MAX, 1 << 32, 1 << 63, 66]),
         }
     }

@@ -74,7 +74,7 @@ pub fn assess(rows: &[Row; 5]) -> Result<Assessment, Refusal> {
 }
 
 /// Whether the years are those of one assessment period, in order.
-fn one_period(years: &[Year; 5]) -> bool {
+pub fn one_period(years: &[Year; 5]) -> bool {
     let first = years[0].number as i128;
     (first - 1) % 5 == 0
         && years
@@ -85,6 +85,11 @@ fn one_period(years: &[Year; 5]) -> bool {
 
 /// The assessment of a period of book, five years and running log.
 pub fn assess_period(book: &Book, years: &[Year; 5], log: &Log) -> Result<Assessment, Refusal> {
+    assess(&rows_of_period(book, years, log)?)
+}
+
+/// The yearly amounts of a period (rule 8.5).
+pub fn rows_of_period(book: &Book, years: &[Year; 5], log: &Log) -> Result<[Row; 5], Refusal> {
     check_book_and_log(book, log)?;
     if !years.iter().all(Year::in_range) || !one_period(years) {
         return Err(9);
@@ -101,7 +106,7 @@ pub fn assess_period(book: &Book, years: &[Year; 5], log: &Log) -> Result<Assess
             w: year.w,
         };
     }
-    assess(&rows)
+    Ok(rows)
 }
 
 #[cfg(test)]

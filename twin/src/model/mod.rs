@@ -10,6 +10,7 @@ pub mod book;
 pub mod calendar;
 pub mod dates;
 pub mod daysheet;
+pub mod filling;
 pub mod growth;
 pub mod levels;
 pub mod log;
@@ -20,13 +21,14 @@ pub mod rounding;
 pub mod settlement;
 pub mod sheet;
 pub mod sums;
+pub mod workbook;
 pub mod year;
 pub mod yearly_return;
 
 #[cfg(test)]
 mod figures;
 
-/// A refusal's number, 1 to 17.
+/// A refusal's number, 1 to 18.
 pub type Refusal = u8;
 
 /// 10^9, the limit of amounts and levels.

@@ -4,6 +4,10 @@ use super::growth::growth;
 use super::rounding::nearest;
 use super::{Refusal, BALANCE_LIMIT};
 
+/// The days that a period may have (rule 9.1).
+pub const FIRST_DAY: i128 = 61;
+pub const LAST_DAY: i128 = 73_050;
+
 /// A period's first and last day, as spreadsheet day numbers.
 #[derive(Clone, Copy, Debug, Default, PartialEq, Eq)]
 pub struct Period {
@@ -12,13 +16,13 @@ pub struct Period {
 }
 
 impl Period {
-    fn in_range(&self) -> bool {
-        let days = 61..=73_050;
-        days.contains(&self.first) && days.contains(&self.last) && self.first <= self.last
+    pub fn in_range(&self) -> bool {
+        let known = |day: u32| (FIRST_DAY..=LAST_DAY).contains(&(day as i128));
+        known(self.first) && known(self.last) && self.first <= self.last
     }
 
     /// Twice the median, so that no half day is lost.
-    fn sum(&self) -> i128 {
+    pub fn sum(&self) -> i128 {
         self.first as i128 + self.last as i128
     }
 }

@@ -1,0 +1,2 @@
+-- Laws on a cell by itself.
+pub mod Laws

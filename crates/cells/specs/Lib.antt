@@ -1,0 +1,2 @@
+-- A cell of a workbook by itself.
+pub mod Cells

@@ -1,2 +1,0 @@
--- What the contracts of daysheet cite.
-pub mod Input

@@ -1,0 +1,2 @@
+-- What a float says in whole numbers and in halves.
+pub mod Floats

@@ -1,0 +1,2 @@
+-- What counts of an input.
+pub mod Input

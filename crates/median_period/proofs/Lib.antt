@@ -1,0 +1,4 @@
+-- Days, medians and the calls on them.
+pub mod Laws
+pub mod Making
+pub mod Only

@@ -1,0 +1,3 @@
+-- What filling a workbook gives, and that it is alone.
+pub mod Answers
+pub mod Only

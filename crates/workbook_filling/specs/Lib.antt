@@ -1,0 +1,2 @@
+-- What filling a workbook gives.
+pub mod Filling
