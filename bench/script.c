@@ -334,7 +334,7 @@ enum { AMOUNTS = 25, NUMBER_KIND = 1, DAY_KIND = 2, FIRST_DAY = 45292, LAST_DAY 
 static int64_t amount_of(unsigned i)
 {
     static const int64_t YEARLY[4] = {95123457, 88608978, 51604250, -2500000};
-    static const int64_t OTHERS[5] = {694544947, 631882087, 364744022, 3170661, -65833521};
+    static const int64_t OTHERS[5] = {694544947, 631882086, 364744022, 3170661, -65833522};
     return i < 20 ? YEARLY[i % 4] : OTHERS[i - 20];
 }
 

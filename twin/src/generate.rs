@@ -4,6 +4,7 @@ mod anything;
 mod assessments;
 mod closings;
 mod fillings;
+mod levels;
 mod logs;
 mod plans;
 mod random;
@@ -45,7 +46,7 @@ impl Generator {
     }
 
     pub fn next_block(&mut self) -> Block {
-        match self.random.below(36) {
+        match self.random.below(37) {
             0..=3 => self.block("log", Generator::log_work),
             4 | 5 => self.block("full log", Generator::full_log_work),
             6 | 7 => self.block("broken log", Generator::broken_log_work),
@@ -60,6 +61,7 @@ impl Generator {
             26..=28 => self.block("closed years", Generator::closed_work),
             29..=31 => self.plan_block(),
             32..=34 => self.workbook_block(),
+            35 => self.block("levels", Generator::level_work),
             _ => self.block("anything", Generator::any_work),
         }
     }

@@ -5,15 +5,16 @@ use mathlib.Core.List.{List, [], _++_}
 use Prim.Native.Nat.{ℕ, _+_, _-_, _*_, _/_, _^_, _≤_, _<_}
 use native.Mathlib.Omega.{arith}
 use borrow.Author.Tests.{leb-true, ltb-true, ltb-false, lt-ltb}
-use lib.Dec.{leb, ltb}
+use lib.Dec.{leb, ltb, lit<}
 use lib.ListN.{length, drop}
-use lib.IntN.{ℤ, pos, negsuc, natAbs, _+ℤ_}
+use lib.IntN.{ℤ, pos, negsuc, natAbs, _+ℤ_, _*ℤ_}
 use lib.Signed.{leZ}
 use Rattle.lists.proofs.Tests.{and-right, not-no}
 use Rattle.refusals.specs.Refusals.{firstApplicable, answerNumber, writtenNumber, lengthFigure}
 use Rattle.refusals.proofs.Laws.{all-clear, beside-accepted}
 use Rattle.refusals.proofs.Cases.{same-case}
 use Rattle.money.specs.Rounding.{onMagnitude}
+use Rattle.money.proofs.Nearest.{round-near}
 use Rattle.calendar.specs.declared.YearMinutes.{YearMinutes}
 use Rattle.calendar.specs.Years.{goodYearNumber, firstFigure, endFigure, MinutesGives}
 use Rattle.outage.specs.declared.Log.{Log}
@@ -29,7 +30,7 @@ use Rattle.levels.specs.declared.measuring.Target.{Target}
 use Rattle.levels.specs.declared.levelling.Levels.{Levels}
 use Rattle.levels.specs.Book.{bookHolds, targetOf}
 use Rattle.levels.specs.Availability.{availabilityIn, meetsTarget, availabilityRows, availabilityNumber, availabilityFigure, AvailabilityGives, targetNumber, targetMet, TargetGives}
-use Rattle.levels.specs.Levels.{timesOf, levelOf, aifOf, capLevel, floorLevel, floorOf, levelsRows, levelsNumber, capFigure, floorFigure, LevelsGives}
+use Rattle.levels.specs.Levels.{levelOf, aifOf, capLevel, floorLevel, floorOf, levelsRows, levelsNumber, capFigure, floorFigure, LevelsGives}
 use Rattle.revenue.specs.Revenue.{assessedRevenue, revenueRows, revenueNumber, revenueFigure}
 use Rattle.balances.specs.declared.assessing.Yearly.{Yearly}
 use Rattle.balances.specs.declared.assessing.Assessment.{Assessment}
@@ -74,7 +75,7 @@ use Rattle.refusals.specs.declared.Written.the-variants.{Length}
 use Rattle.return_writing.specs.Written.{WriteGives}
 use Rattle.refusals.proofs.Writing.{written-answers}
 use Rattle.return_refiling.specs.Refiled.{refileRows, RefileGives}
-use Rattle.demands.specs.Demand2.{Carried, NearSums, Demand2}
+use Rattle.demands.specs.Demand2.{IsLevel, Carried, NearSums, Demand2}
 use Rattle.demands.proofs.Lost.{first-is, end-is, year-lost, year-most}
 use Rattle.demands.proofs.Returns.{written-reads-back, read-writes-back}
 use Rattle.demands.proofs.PlanMessages.{plan-reads-back, plan-is, is-read, plan-writes-back, plan-refused-at, plan-one-of-three, plan-longer-is, plan-alone}
@@ -102,10 +103,16 @@ target-is book log number r g n a h =
     ∙ ap (λ (x : ℕ). leb (60 * targetOf book number) x)
     (sym (beside-accepted (availabilityRows book log number) (availabilityNumber a) (availabilityFigure a) (availabilityIn log number) 0 (h .0) (h .1) (h .0 ∙ clear)))
 
+is-level : (level : ℤ) (partial : ℕ) (sum : ℤ) (incentive pppi : ℕ) → level ≡ levelOf partial sum incentive pppi → IsLevel level sum (partial * incentive * pppi)
+unfolding levelOf
+is-level level partial sum incentive pppi e =
+    record { rounded = e; near = rw e (round-near (sum *ℤ pos (partial * incentive * pppi)) 1000000000000 (lit< tt)) }
+
 module _ (book : Book) (y : Year) (log : Log) (r : Levels) (g : LevelsGives book y log r) (n : levelsNumber r ≡ 0) where
-  cap-is : capFigure r ≡ timesOf (timesOf (timesOf (book .pcl +ℤ book .pcac +ℤ book .orac) (y .pyc)) (y .aic)) (y .pppi)
-  unfolding levelOf
-  cap-is = beside-accepted (levelsRows book y log) (levelsNumber r) (capFigure r) (capLevel book y) (pos 0) (g .0) (g .1) n
+  cap-is : IsLevel (capFigure r) (book .pcl +ℤ book .pcac +ℤ book .orac) (y .pyc * y .aic * y .pppi)
+  cap-is =
+      is-level (capFigure r) (y .pyc) (book .pcl +ℤ book .pcac +ℤ book .orac) (y .aic) (y .pppi)
+      (beside-accepted (levelsRows book y log) (levelsNumber r) (capFigure r) (capLevel book y) (pos 0) (g .0) (g .1) n)
 
   -- the target is asked with what the levels were found good
   met-is : (t : Target) → TargetGives book log (y .number) t → targetMet t ≡ meetsTarget book log (y .number)
@@ -117,11 +124,11 @@ module _ (book : Book) (y : Year) (log : Log) (r : Levels) (g : LevelsGives book
       h .1 ∙ rw (b, v, good) refl
 
   floor-is : (t : Target) → TargetGives book log (y .number) t
-      → floorFigure r ≡ timesOf (timesOf (timesOf (book .pfl +ℤ book .pcaf +ℤ book .oraf) (y .pyf)) (aifOf (targetMet t) (y .exceptional) (book .«miss_factor»))) (y .pppi)
-  unfolding levelOf
+      → IsLevel (floorFigure r) (book .pfl +ℤ book .pcaf +ℤ book .oraf) (y .pyf * aifOf (targetMet t) (y .exceptional) (book .«miss_factor») * y .pppi)
   floor-is t h =
-      beside-accepted (levelsRows book y log) (levelsNumber r) (floorFigure r) (floorOf book y log) (pos 0) (g .0) (g .2) n
-      ∙ ap (λ (met : Bool). floorLevel book y (aifOf met (y .exceptional) (book .«miss_factor»))) (sym (met-is t h))
+      is-level (floorFigure r) (y .pyf) (book .pfl +ℤ book .pcaf +ℤ book .oraf) (aifOf (targetMet t) (y .exceptional) (book .«miss_factor»)) (y .pppi)
+      (beside-accepted (levelsRows book y log) (levelsNumber r) (floorFigure r) (floorOf book y log) (pos 0) (g .0) (g .2) n
+      ∙ ap (λ (met : Bool). floorLevel book y (aifOf met (y .exceptional) (book .«miss_factor»))) (sym (met-is t h)))
 
 -- ---- balances and the adjustment
 module _ (y : Yearly) (r : Assessment) (g : AssessGives y r) (n : assessNumber r ≡ 0) where

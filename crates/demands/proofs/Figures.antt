@@ -8,17 +8,17 @@ use lib.Dec.{leb, eqb, leb·zero, lit≤}
 use lib.IntN.{ℤ, pos, negsuc, negℤ}
 use lib.ListN.{getD}
 use Rattle.refusals.specs.Refusals.{firstApplicable}
-use Rattle.refusals.specs.declared.Refusal.the-variants.{BadBook, BrokenLog, BadYear, TooLarge, BadPeriod}
+use Rattle.refusals.specs.declared.Refusal.the-variants.{TooLarge, BadPeriod}
 use Rattle.money.specs.Rounding.{upOf, roundDiv, onMagnitude, roundZ}
 use Rattle.calendar.specs.Years.{daysTo, yearStart, yearEnd}
 use Rattle.entries.specs.Row.{validRow}
 use Rattle.outage.specs.declared.Log.{Log}
-use Rattle.outage.specs.Log.{validLog, lastRegimeEnd, logEntries, mostMw}
+use Rattle.outage.specs.Log.{logEntries, mostMw}
 use Rattle.entries.proofs.Minutes.{by-minutes, energyOf}
 use Rattle.year.specs.Year.{goodYear}
-use Rattle.levels.specs.Book.{publishedBook, goodBook, bookHolds, targetOf}
+use Rattle.levels.specs.Book.{publishedBook, goodBook, targetOf}
 use Rattle.levels.specs.Availability.{availabilityIn, meetsTarget, availabilityRows, targetGiven, TargetGives}
-use Rattle.levels.specs.Levels.{timesOf, levelOf, capLevel, floorLevel, floorOf, levelFits, levelsRows, LevelsGives}
+use Rattle.levels.specs.Levels.{levelOf, capLevel, floorLevel, floorOf, levelFits, levelsRows, LevelsGives}
 use Rattle.levels.proofs.Only.{only-target, only-levels}
 use Rattle.levels.specs.declared.measuring.Target.the-variants as target
 use Rattle.levels.specs.declared.levelling.Levels.the-variants as levels
@@ -36,44 +36,54 @@ use Rattle.settlement.proofs.Only.{only-gap, only-growth, only-pay}
 use Rattle.settlement.specs.declared.medians.Gap.the-variants as gap
 use Rattle.settlement.specs.declared.table.Growth.the-variants as growth
 use Rattle.settlement.specs.declared.paying.Payment.the-variants as payment
-use Rattle.demands.specs.Figures.{outFor, noOutage, markedYear, fiveYears, FiveFigures, MarkedFigures}
+use Rattle.demands.specs.Figures.{outFor, noOutage, wholeYear, bookWith, fiveYears, FiveFigures, MarkedFigures}
 
 -- ---- levels
--- the published book asks for nothing in year one, so the target is met
-asks-nothing : meetsTarget publishedBook noOutage 1 ≡ true
-asks-nothing = leb·zero (availabilityIn noOutage 1)
+-- the levels of a book that asks for nothing in year one, in a whole year without an outage
+module _ (pcl aic pppi : ℕ) (cap floor : ℤ) (b : goodBook (bookWith pcl) ≡ true) (k : goodYear (wholeYear aic pppi) ≡ true)
+    (c : capLevel (bookWith pcl) (wholeYear aic pppi) ≡ cap) (f : floorLevel (bookWith pcl) (wholeYear aic pppi) 10000 ≡ floor) where
+  met : meetsTarget (bookWith pcl) noOutage 1 ≡ true
+  met = leb·zero (availabilityIn noOutage 1)
 
-floor-met : floorOf publishedBook markedYear noOutage ≡ floorLevel publishedBook markedYear 10000
-floor-met = rw asks-nothing refl
+  floor-met : floorOf (bookWith pcl) (wholeYear aic pppi) noOutage ≡ floor
+  floor-met = rw met f
 
-cap-figure : capLevel publishedBook markedYear ≡ pos 94030783
-unfolding levelOf timesOf roundZ onMagnitude roundDiv upOf
-cap-figure = refl
+  -- nothing stops them but the limit
+  limit-alone : firstApplicable (levelsRows (bookWith pcl) (wholeYear aic pppi) noOutage) ≡ firstApplicable ((TooLarge, not (levelFits cap && levelFits floor)) ∷ [])
+  unfolding validRow
+  limit-alone = rw (b, k, c, floor-met) refl
 
-floor-figure : floorOf publishedBook markedYear noOutage ≡ pos 53688049
-unfolding levelOf timesOf roundZ onMagnitude roundDiv upOf
-floor-figure = floor-met ∙ refl
+  levels-are : (levelFits cap && levelFits floor) ≡ true → LevelsGives (bookWith pcl) (wholeYear aic pppi) noOutage (levels.Pounds cap floor)
+  levels-are h =
+      let clear : firstApplicable (levelsRows (bookWith pcl) (wholeYear aic pppi) noOutage) ≡ 0 = limit-alone ∙ rw h refl in (
+        sym clear,
+        sym c ∙ sym (ap (λ (n : ℕ). cond (eqb n 0) (capLevel (bookWith pcl) (wholeYear aic pppi)) (pos 0)) clear),
+        sym floor-met ∙ sym (ap (λ (n : ℕ). cond (eqb n 0) (floorOf (bookWith pcl) (wholeYear aic pppi) noOutage) (pos 0)) clear),
+      )
 
--- its rows, with the two levels that are tested
-none-applies : (cap floor : ℤ) → levelFits cap ≡ true → levelFits floor ≡ true
-    → firstApplicable
-    ((BadBook, not (bookHolds publishedBook lastRegimeEnd))
-    ∷ (BrokenLog, not (validLog noOutage))
-    ∷ (BadYear, not (goodYear markedYear))
-    ∷ (TooLarge, not (levelFits cap && levelFits floor))
-    ∷ [])
-    ≡ 0
-unfolding goodBook validRow
-none-applies cap floor c f = rw (c, f) refl
+  levels-past : (levelFits cap && levelFits floor) ≡ false → LevelsGives (bookWith pcl) (wholeYear aic pppi) noOutage (levels.Refused TooLarge)
+  levels-past h =
+      let stop : firstApplicable (levelsRows (bookWith pcl) (wholeYear aic pppi) noOutage) ≡ 11 = limit-alone ∙ rw h refl in (
+        sym stop,
+        sym (ap (λ (n : ℕ). cond (eqb n 0) (capLevel (bookWith pcl) (wholeYear aic pppi)) (pos 0)) stop),
+        sym (ap (λ (n : ℕ). cond (eqb n 0) (floorOf (bookWith pcl) (wholeYear aic pppi) noOutage) (pos 0)) stop),
+      )
 
-marked-levels : LevelsGives publishedBook markedYear noOutage (levels.Pounds (pos 94030783) (pos 53688049))
-marked-levels =
-    let clear : firstApplicable (levelsRows publishedBook markedYear noOutage) ≡ 0 =
-    none-applies (capLevel publishedBook markedYear) (floorOf publishedBook markedYear noOutage) (ap levelFits cap-figure) (ap levelFits floor-figure) in (
-      sym clear,
-      sym cap-figure ∙ sym (ap (λ (n : ℕ). cond (eqb n 0) (capLevel publishedBook markedYear) (pos 0)) clear),
-      sym floor-figure ∙ sym (ap (λ (n : ℕ). cond (eqb n 0) (floorOf publishedBook markedYear noOutage) (pos 0)) clear),
-    )
+marked-levels : LevelsGives publishedBook (wholeYear 10200 11000) noOutage (levels.Pounds (pos 94030783) (pos 53688049))
+unfolding goodBook levelOf roundZ onMagnitude roundDiv upOf
+marked-levels = levels-are 83806402 10200 11000 (pos 94030783) (pos 53688049) refl refl refl refl refl
+
+once : LevelsGives (bookWith 83806406) (wholeYear 10200 11000) noOutage (levels.Pounds (pos 94030788) (pos 53688049))
+unfolding goodBook levelOf roundZ onMagnitude roundDiv upOf
+once = levels-are 83806406 10200 11000 (pos 94030788) (pos 53688049) refl refl refl refl refl
+
+at-most : LevelsGives (bookWith 961538462) (wholeYear 10000 10400) noOutage (levels.Pounds (pos 1000000000) (pos 50759610))
+unfolding goodBook levelOf roundZ onMagnitude roundDiv upOf
+at-most = levels-are 961538462 10000 10400 (pos 1000000000) (pos 50759610) refl refl refl refl refl
+
+past : LevelsGives (bookWith 970873787) (wholeYear 10300 10000) noOutage (levels.Refused TooLarge)
+unfolding goodBook levelOf roundZ onMagnitude roundDiv upOf
+past = levels-past 970873787 10300 10000 (pos 1000000001) (pos 48807317) refl refl refl refl refl
 
 -- ---- targets
 -- the target, entry by entry
@@ -192,7 +202,10 @@ marked = record {
   met = λ r g. only-target publishedBook (outFor 1009440 104832) 3 r target.Met g marked-met;
   missed = λ r g. only-target publishedBook (outFor 1009440 104833) 3 r target.Missed g marked-missed;
   leap = λ r g. only-target publishedBook (outFor 482400 106272) 2 r target.Met g marked-leap;
-  cap-and-floor = λ r g. only-levels publishedBook markedYear noOutage r (levels.Pounds (pos 94030783) (pos 53688049)) g marked-levels;
+  cap-and-floor = λ r g. only-levels publishedBook (wholeYear 10200 11000) noOutage r (levels.Pounds (pos 94030783) (pos 53688049)) g marked-levels;
+  rounded-once = λ r g. only-levels (bookWith 83806406) (wholeYear 10200 11000) noOutage r (levels.Pounds (pos 94030788) (pos 53688049)) g once;
+  cap-most = λ r g. only-levels (bookWith 961538462) (wholeYear 10000 10400) noOutage r (levels.Pounds (pos 1000000000) (pos 50759610)) g at-most;
+  cap-past = λ r g. only-levels (bookWith 970873787) (wholeYear 10300 10000) noOutage r (levels.Refused TooLarge) g past;
   carry = place 0 carries;
   carry-back = place 1 carries;
   carry-index = place 2 carries;

@@ -15,7 +15,7 @@ use lib.Ieee.{binary64, ofInt}
 use Rattle.lists.specs.Lists.{all}
 use Rattle.refusals.specs.Refusals.{answerNumber, writtenNumber}
 use Rattle.refusals.specs.declared.Answer.the-variants.{Done}
-use Rattle.money.specs.Rounding.{onMagnitude}
+use Rattle.money.specs.Rounding.{onMagnitude, roundZ}
 use Rattle.calendar.specs.declared.YearMinutes.{YearMinutes}
 use Rattle.calendar.specs.Years.{firstFigure, endFigure, MinutesGives}
 use Rattle.outage.specs.declared.Log.{Log}
@@ -30,7 +30,7 @@ use Rattle.levels.specs.declared.measuring.Target.{Target}
 use Rattle.levels.specs.declared.levelling.Levels.{Levels}
 use Rattle.levels.specs.Book.{targetOf, publishedBook}
 use Rattle.levels.specs.Availability.{availabilityNumber, availabilityFigure, AvailabilityGives, targetNumber, targetMet, TargetGives}
-use Rattle.levels.specs.Levels.{timesOf, aifOf, levelsNumber, capFigure, floorFigure, LevelsGives}
+use Rattle.levels.specs.Levels.{aifOf, levelsNumber, capFigure, floorFigure, LevelsGives}
 use Rattle.revenue.specs.declared.Revenue.{Revenue}
 use Rattle.revenue.specs.Revenue.{GCR, MRC, IAT, revenueNumber, revenueFigure, RevenueGives}
 use Rattle.balances.specs.declared.assessing.Yearly.{Yearly}
@@ -91,6 +91,11 @@ use Rattle.refusals.specs.declared.Written.the-variants.{Length}
 use Rattle.return_writing.specs.Written.{WriteGives}
 use Rattle.return_refiling.specs.Refiled.{RefileGives}
 
+-- ---- what a level is: a sum times three factors in ten-thousandths, exact and rounded once, so within half a pound
+pub record IsLevel (level sum : ℤ) (factors : ℕ) : Type 0 where
+  pub rounded : level ≡ roundZ (sum *ℤ pos factors) 1000000000000
+  pub near : 2 * natAbs (level *ℤ pos 1000000000000 -ℤ sum *ℤ pos factors) ≤ 1000000000000
+
 -- ---- what the figures of an assessment are
 -- the balances after five years by rule 8.1, T, and the adjustment
 pub record Carried (y : Yearly) (f : Figures) : Type 0 where
@@ -121,13 +126,13 @@ pub record Demand2 : Type 0 where
   -- SC4 12, 16: the target is met where 60 times it is at most the availability
   pub target : (book : Book) (log : Log) (number : ℕ) (r : Target) → TargetGives book log number r → targetNumber r ≡ 0
       → (a : Availability) → AvailabilityGives book log number a → targetMet r ≡ leb (60 * targetOf book number) (availabilityFigure a)
-  -- SC2 4(a): PYC x (PCL + PCAC + ORAC) x AIC x PPPI, rounded after each product
+  -- SC2 4(a): PYC x (PCL + PCAC + ORAC) x AIC x PPPI, rounded once
   pub cap : (book : Book) (y : Year) (log : Log) (r : Levels) → LevelsGives book y log r → levelsNumber r ≡ 0
-      → capFigure r ≡ timesOf (timesOf (timesOf (book .pcl +ℤ book .pcac +ℤ book .orac) (y .pyc)) (y .aic)) (y .pppi)
+      → IsLevel (capFigure r) (book .pcl +ℤ book .pcac +ℤ book .orac) (y .pyc * y .aic * y .pppi)
   -- SC2 4(b): PYF x (PFL + PCAF + ORAF) x AIF x PPPI, with AIF by what the target is answered
   pub floor : (book : Book) (y : Year) (log : Log) (r : Levels) → LevelsGives book y log r → levelsNumber r ≡ 0
       → (t : Target) → TargetGives book log (y .number) t
-      → floorFigure r ≡ timesOf (timesOf (timesOf (book .pfl +ℤ book .pcaf +ℤ book .oraf) (y .pyf)) (aifOf (targetMet t) (y .exceptional) (book .«miss_factor»))) (y .pppi)
+      → IsLevel (floorFigure r) (book .pfl +ℤ book .pcaf +ℤ book .oraf) (y .pyf * aifOf (targetMet t) (y .exceptional) (book .«miss_factor») * y .pppi)
   -- ---- assessed revenue: SC5 3 and SC7 27, of the lines that are counted
   pub revenue : (y : Year) (r : Revenue) → RevenueGives y r → revenueNumber r ≡ 0
       → revenueFigure r

@@ -4,11 +4,12 @@ use mathlib.Core.Bool.{true, false}
 use mathlib.Core.List.{List, [], _∷_}
 use Prim.Native.Nat.{ℕ, _+_}
 use lib.IntN.{pos, negℤ}
-use Rattle.refusals.specs.declared.Refusal.the-variants.{BadPeriod}
+use Rattle.refusals.specs.declared.Refusal.the-variants.{TooLarge, BadPeriod}
 use Rattle.outage.specs.declared.Log.{Log}
 use Rattle.outage.specs.Log.{logHolding, lastRegimeEnd}
 use Rattle.year.specs.declared.Year.{Year}
 use Rattle.year.specs.Year.{freshYear}
+use Rattle.levels.specs.declared.Book.{Book}
 use Rattle.levels.specs.declared.measuring.Target.{Target}
 use Rattle.levels.specs.declared.measuring.Target.the-variants as target
 use Rattle.levels.specs.declared.levelling.Levels.{Levels}
@@ -37,13 +38,13 @@ outFor start minutes = logHolding lastRegimeEnd (record { start = start; end = s
 abbrev pub noOutage : Log
 noOutage = logHolding lastRegimeEnd []
 
--- a whole year with AIC 10,200 and PPPI 11,000
-abbrev pub markedYear : Year
-markedYear = record {
+-- a whole year with an AIC and a PPPI
+abbrev pub wholeYear : ℕ → ℕ → Year
+wholeYear aic pppi = record {
   number = 1;
-  pppi = 11000;
+  pppi = pppi;
   rate = 100000;
-  aic = 10200;
+  aic = aic;
   pyc = 10000;
   pyf = 10000;
   lines = freshYear .lines;
@@ -51,6 +52,21 @@ markedYear = record {
   exceptional = false;
   wpa = pos 0;
   log = freshYear .log;
+}
+
+-- the published book but for its preliminary cap
+abbrev pub bookWith : ℕ → Book
+bookWith pcl = record {
+  «regime_end» = publishedBook .«regime_end»;
+  «first_target» = publishedBook .«first_target»;
+  «last_target» = publishedBook .«last_target»;
+  pcl = pos pcl;
+  pfl = publishedBook .pfl;
+  pcac = publishedBook .pcac;
+  pcaf = publishedBook .pcaf;
+  orac = publishedBook .orac;
+  oraf = publishedBook .oraf;
+  «miss_factor» = publishedBook .«miss_factor»;
 }
 
 -- rule 13.4: five years alike but for W, which the second alone has
@@ -85,7 +101,13 @@ pub record MarkedFigures : Type 0 where
   -- year 2 is a leap year and has a day more to lose
   pub leap : (r : Target) → TargetGives publishedBook (outFor 482400 106272) 2 r → r ≡ target.Met
   -- rule 13.2: cap and floor of the published book
-  pub cap-and-floor : (r : Levels) → LevelsGives publishedBook markedYear noOutage r → r ≡ levels.Pounds (pos 94030783) (pos 53688049)
+  pub cap-and-floor : (r : Levels) → LevelsGives publishedBook (wholeYear 10200 11000) noOutage r → r ≡ levels.Pounds (pos 94030783) (pos 53688049)
+  -- a cap that a rounding on the way would take a pound from
+  pub rounded-once : (r : Levels) → LevelsGives (bookWith 83806406) (wholeYear 10200 11000) noOutage r → r ≡ levels.Pounds (pos 94030788) (pos 53688049)
+  -- 10^9 and 48 hundredths are 10^9
+  pub cap-most : (r : Levels) → LevelsGives (bookWith 961538462) (wholeYear 10000 10400) noOutage r → r ≡ levels.Pounds (pos 1000000000) (pos 50759610)
+  -- 10^9 and 61 hundredths are past it
+  pub cap-past : (r : Levels) → LevelsGives (bookWith 970873787) (wholeYear 10300 10000) noOutage r → r ≡ levels.Refused TooLarge
   -- rule 13.3: halves of either sign. No call carries alone, so this is of what every balance is carried by
   pub carry : carryOf (pos 1250) 10000 10000 ≡ pos 1299
   pub carry-back : carryOf (negℤ (pos 1250)) 10000 10000 ≡ negℤ (pos 1299)

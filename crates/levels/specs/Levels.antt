@@ -2,7 +2,7 @@
 use mathlib.Core.Bool.{Bool, cond, not, _&&_, _||_}
 use mathlib.Core.List.{[], _∷_}
 use mathlib.Core.Path.{_≡_}
-use Prim.Native.Nat.{ℕ}
+use Prim.Native.Nat.{ℕ, _*_}
 use lib.Dec.{leb}
 use lib.IntN.{ℤ, pos, natAbs, _*ℤ_}
 use Rattle.refusals.specs.Refusals.{Rows, accepted, refusalNumber, firstApplicable}
@@ -18,13 +18,9 @@ use Rattle.levels.specs.declared.levelling.Levels.the-variants.{Pounds, 
 use Rattle.levels.specs.Book.{bookHolds, capSum, floorSum}
 use Rattle.levels.specs.Availability.{meetsTarget}
 
--- a factor in ten-thousandths times an amount, rounded
-unfoldable pub timesOf : ℤ → ℕ → ℤ
-timesOf amount factor = roundZ (amount *ℤ pos factor) 10000
-
--- rule 6.2: three products in their order, each rounded
+-- rule 6.2: the sum times three factors in ten-thousandths, rounded once
 unfoldable pub levelOf : ℕ → ℤ → ℕ → ℕ → ℤ
-levelOf partial sum incentive pppi = timesOf (timesOf (timesOf sum partial) incentive) pppi
+levelOf partial sum incentive pppi = roundZ (sum *ℤ pos (partial * incentive * pppi)) 1000000000000
 
 -- rule 6.3: the incentive at floor (SC4 16)
 abbrev pub aifOf : Bool → Bool → ℕ → ℕ

@@ -6,7 +6,11 @@ use super::measuring::measured;
 use super::measuring::sum_of;
 use super::measuring::tested;
 use calendar::year_minutes;
-use money::scaled;
+use money::credit;
+use money::debit;
+use money::is_negative;
+use money::magnitude;
+use money::rounded;
 use money::within;
 use outage::Log;
 use outage::lost_energy;
@@ -19,7 +23,10 @@ ghost use mathlib.Core.Bool.{true};
 ghost use Prim.Native.Nat.{_≤_};
 ghost use lib.IntN.{natAbs};
 ghost use Rattle.levels.specs.Book.{capSum, floorSum, goodBook};
-ghost use Rattle.levels.specs.Levels.{aifOf, levelOf, timesOf, LevelsGives};
+ghost use Rattle.levels.specs.Levels.{aifOf, levelOf, LevelsGives};
+
+// What a product of three factors in ten-thousandths is divided by.
+const OVER: u64 = 1_000_000_000_000;
 
 // A year's cap and floor in whole pounds, or why there are none.
 pub enum Levels {
@@ -35,20 +42,22 @@ impl Levels {
     pub const MOST: u64 = 1_000_000_000;
 }
 
-// A factor in ten-thousandths times an amount, rounded.
-fn times(amount: i64, factor: u32) -> i64
-    requires { ⌜ (natAbs amount ≤ 10000000000) × (factor ≤ 50000) ⌝ }
-    ensures { λ r. ⌜ r ≡ timesOf amount factor ⌝ }
-{
-    scaled(amount, factor, 10_000)
-}
-
-// A level: three products in the order of factors, each rounded.
+// A level: the sum times three factors, over 10^12 and rounded once, rule 6.2. The product does not fit 64 bits: what comes
+// before the index is split into whole 10^12s and a rest, each is multiplied by the index, and both make the quotient.
 fn level(partial: u16, sum: i64, incentive: u16, pppi: u32) -> i64
     requires { ⌜ (partial ≤ 10000) × (natAbs sum ≤ 1000000000) × (incentive ≤ 20000) × (pppi ≤ 50000) ⌝ }
     ensures { λ r. ⌜ r ≡ levelOf partial sum incentive pppi ⌝ }
 {
-    times(times(times(sum, partial as u32), incentive as u32), pppi)
+    let before = magnitude(sum) * (partial as u64) * (incentive as u64);
+    let index = pppi as u64;
+    let low = (before % OVER) * index;
+    let quotient = (before / OVER) * index + low / OVER;
+    let pounds = rounded(quotient, low % OVER, OVER);
+    if is_negative(sum) {
+        debit(pounds)
+    } else {
+        credit(pounds)
+    }
 }
 
 // The incentive at floor, AIF.

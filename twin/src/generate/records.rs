@@ -23,7 +23,9 @@ impl Generator {
             match self.random.below(5) {
                 0 => book.regime_end = self.random.fair_regime_end(),
                 1 => (),
-                2 => self.level_at_limit(&mut book),
+                2 => {
+                    self.levels_at_edge(&mut book);
+                }
                 _ => self.random.spoil_book(&mut book),
             }
             self.call(Call::SetBook { book });
@@ -50,27 +52,6 @@ impl Generator {
             self.call(Call::Levels { k });
             self.call(Call::Period);
         }
-    }
-
-    /// Levels that end at or just past 10^9.
-    fn level_at_limit(&mut self, book: &mut Book) {
-        (book.pcac, book.orac, book.pcaf, book.oraf) = (0, 0, 0, 0);
-        (book.pcl, book.pfl) = (MOST, MOST);
-        let k = self.any_k();
-        let number = self.desk.years[k as usize].number;
-        let mut fields = self.random.fair_fields(number, 0);
-        fields.aic = self.random.pick(&[20_000, 10_000, 19_999]);
-        (fields.pyc, fields.pyf) = (10_000, self.random.pick(&[0, 5_000, 10_000]));
-        fields.pppi = self.random.pick(&[5_000, 5_001, 10_000, 10_001, 20_000, 20_001]);
-        if self.random.one_in(2) {
-            // 999,900,010 x 1.0001 is 10^9, one pound more is 10^9 + 1.
-            book.pcl = 999_900_010 + self.random.between(-1, 1) as i64;
-            book.pfl = 999_900_010 + self.random.between(-1, 1) as i64;
-            (fields.aic, fields.pppi) = (10_000, 10_001);
-        }
-        self.call(Call::SetYear { k, fields });
-        self.call(Call::SetBook { book: book.clone() });
-        self.call(Call::Levels { k });
     }
 
     /// Years with fields and lines at and just past their limits.

@@ -229,6 +229,12 @@ impl Random {
             3 => self.between(0, 200_000_000),
             _ => self.between(0, most),
         };
+        self.split_sum(sum)
+    }
+
+    /// A sum in range as a level and two adjustments.
+    pub fn split_sum(&mut self, sum: i128) -> [i64; 3] {
+        let most = MOST as i128;
         let preliminary = match self.below(4) {
             0 => 0,
             1 => most,

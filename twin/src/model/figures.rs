@@ -32,6 +32,13 @@ fn the_target_of_2021_and_2020() {
 fn the_levels() {
     let year = Year { aic: 10_200, pppi: 11_000, ..Year::fresh() };
     assert_eq!(levels(&Book::fresh(), &year, &Log::fresh()), Ok((94_030_783, 53_688_049)));
+    let cap = |pcl: i64, aic: u16, pppi: u32| {
+        let (book, year) = (Book { pcl, ..Book::fresh() }, Year { aic, pppi, ..Year::fresh() });
+        levels(&book, &year, &Log::fresh()).map(|(cap, _)| cap)
+    };
+    assert_eq!(cap(83_806_406, 10_200, 11_000), Ok(94_030_788));
+    assert_eq!(cap(961_538_462, 10_000, 10_400), Ok(1_000_000_000));
+    assert_eq!(cap(666_666_667, 15_000, 10_000), Err(11));
 }
 
 #[test]

@@ -43,11 +43,9 @@ pub fn target_met(book: &Book, log: &Log, number: u8) -> Result<bool, Refusal> {
     Ok(availability(book, log, number)? >= target(book, number) * 60)
 }
 
-/// Three products, rounded after each.
+/// The exact product over 10^12, rounded once (rule 6.2).
 fn level(part_year: u16, sum: i128, factor: i128, pppi: u32) -> i128 {
-    let whole = nearest(part_year as i128 * sum, 10_000);
-    let with_factor = nearest(whole * factor, 10_000);
-    nearest(with_factor * pppi as i128, 10_000)
+    nearest(part_year as i128 * sum * factor * pppi as i128, 1_000_000_000_000)
 }
 
 /// Cap and floor of a year, the target tested on the running log.
@@ -110,6 +108,87 @@ mod tests {
         assert_eq!(levels(&book, &year, &log), Ok((0, 1_000_000_000)));
         year.pppi = 10_001;
         assert_eq!(levels(&book, &year, &log), Err(11));
+    }
+
+    /// The cap of year 1 at a sum, PYC, AIC and PPPI; the floor is 0.
+    fn cap(pcl: i64, pyc: u16, aic: u16, pppi: u32) -> Result<i128, Refusal> {
+        let book = Book { pcl, pfl: 0, ..Book::fresh() };
+        let year = Year { pyc, aic, pppi, ..Year::fresh() };
+        levels(&book, &year, &Log::fresh()).map(|(cap, _)| cap)
+    }
+
+    /// The floor of year 1 at a sum, PYF, AIF and PPPI, the target missed; the
+    /// cap is 0.
+    fn floor(pfl: i64, pyf: u16, aif: u16, pppi: u32) -> Result<i128, Refusal> {
+        let missed = Book { target_1: 20_000_000, miss_factor: aif, ..Book::fresh() };
+        let book = Book { pcl: 0, pfl, ..missed };
+        let year = Year { pyf, pppi, ..Year::fresh() };
+        levels(&book, &year, &Log::fresh()).map(|(_, floor)| floor)
+    }
+
+    #[test]
+    fn a_level_is_rounded_once() {
+        // 1.02 x 1.1 is 1.122: 83,806,406 + 10,224,381.532.
+        assert_eq!(cap(83_806_406, 10_000, 10_200, 11_000), Ok(94_030_788));
+        // 0.5 x 1.5 is 0.75. 0.5 x 2 x 5 is 5, and 0.4999 x 10 is 4.999.
+        assert_eq!(cap(1, 5_000, 15_000, 10_000), Ok(1));
+        assert_eq!(cap(1, 5_000, 20_000, 50_000), Ok(5));
+        assert_eq!(cap(1, 4_999, 20_000, 50_000), Ok(5));
+        // 48,807,317 x 0.55 is 26,844,024.35. 0.4999 x 5 is 2.4995.
+        assert_eq!(floor(48_807_317, 10_000, 5_000, 11_000), Ok(26_844_024));
+        assert_eq!(floor(1, 4_999, 10_000, 50_000), Ok(2));
+        assert_eq!(floor(1, 10_000, 4_999, 50_000), Ok(2));
+    }
+
+    #[test]
+    fn halves_of_a_whole_product() {
+        // 1, 3, 5 and 99,999 at a half; 99,999 x 0.5 is 49,999.5.
+        for (sum, level) in [(1, 1), (3, 2), (5, 3), (99_999, 50_000)] {
+            assert_eq!(cap(sum, 10_000, 10_000, 5_000), Ok(level));
+            assert_eq!(cap(sum, 2_500, 20_000, 10_000), Ok(level));
+            assert_eq!(floor(sum, 10_000, 10_000, 5_000), Ok(level));
+            assert_eq!(floor(sum, 10_000, 2_500, 20_000), Ok(level));
+        }
+        // 0.9999 x 1.0001 is 0.99999999, so each lies below its half.
+        for (sum, level) in [(1, 0), (3, 1), (5, 2), (99_999, 49_999)] {
+            assert_eq!(cap(sum, 9_999, 10_001, 5_000), Ok(level));
+            assert_eq!(floor(sum, 9_999, 5_000, 10_001), Ok(level));
+        }
+    }
+
+    #[test]
+    fn parts_of_the_largest_products() {
+        // 9,999 x 10,001 is 10^8 - 1; times 10^8 + 1 it is 10^16 - 1, and times
+        // 50,000 over 10^12 it is 500,000,000 less 0.00000005.
+        assert_eq!(cap(100_000_001, 9_999, 10_001, 50_000), Ok(500_000_000));
+        // 500,000,005 less its 10,000th part, 50,000.0005, is 499,950,004.9995.
+        assert_eq!(floor(100_000_001, 9_999, 10_000, 50_000), Ok(499_950_005));
+        assert_eq!(cap(1_000_000_000, 1_000, 20_000, 50_000), Ok(1_000_000_000));
+        assert_eq!(cap(1_000_000_000, 1_001, 20_000, 50_000), Err(11));
+        assert_eq!(cap(1_000_000_000, 10_000, 20_000, 50_000), Err(11));
+        assert_eq!(floor(1_000_000_000, 10_000, 10_000, 50_000), Err(11));
+    }
+
+    #[test]
+    fn the_limit_is_of_the_rounded_level() {
+        // 961,538,462 x 1.04 is 10^9 + 0.48, and each pound more adds 1.04.
+        assert_eq!(cap(961_538_462, 10_000, 10_000, 10_400), Ok(1_000_000_000));
+        assert_eq!(cap(961_538_463, 10_000, 10_000, 10_400), Err(11));
+        assert_eq!(floor(961_538_462, 10_000, 10_000, 10_400), Ok(1_000_000_000));
+        assert_eq!(floor(961_538_463, 10_000, 10_000, 10_400), Err(11));
+        // 666,666,667 x 1.5 is 10^9 + 0.5; 645,161,290 x 1.55 is 10^9 - 0.5.
+        assert_eq!(cap(666_666_667, 10_000, 15_000, 10_000), Err(11));
+        assert_eq!(cap(666_666_666, 10_000, 15_000, 10_000), Ok(999_999_999));
+        assert_eq!(floor(666_666_667, 10_000, 5_000, 30_000), Err(11));
+        assert_eq!(floor(666_666_666, 10_000, 5_000, 30_000), Ok(999_999_999));
+        assert_eq!(cap(645_161_290, 10_000, 10_000, 15_500), Ok(1_000_000_000));
+        assert_eq!(floor(645_161_290, 5_000, 10_000, 31_000), Ok(1_000_000_000));
+        // 1.0521 x 1.1881 and 0.3507 x 3.5643 are 1.25000001: 800,000,000 x it is
+        // 10^9 + 8, six less 10^9 + 0.49999994, five less 10^9 + 1.74999995.
+        assert_eq!(cap(799_999_994, 10_000, 10_521, 11_881), Ok(1_000_000_000));
+        assert_eq!(cap(799_999_995, 10_000, 10_521, 11_881), Err(11));
+        assert_eq!(floor(799_999_994, 10_000, 3_507, 35_643), Ok(1_000_000_000));
+        assert_eq!(floor(799_999_995, 10_000, 3_507, 35_643), Err(11));
     }
 
     #[test]
