@@ -250,14 +250,7 @@ impl Random {
 impl Generator {
     /// Caps and floors at edges, and some of five years in one period.
     pub fn level_work(&mut self) {
-        let regime_end = self.random.fair_regime_end();
-        let count = self.random.below(4) as usize;
-        let outages = self.random.outages(count, 0, 12_000_000);
-        self.put_log(&outages, regime_end);
-        for k in 0..5 {
-            let fields = self.random.fair_fields(k + 1, 0);
-            self.call(Call::SetYear { k, fields });
-        }
+        let regime_end = self.put_log_and_years();
         for _ in 0..80 {
             let mut book = self.random.fair_book(regime_end);
             let fields = self.levels_at_edge(&mut book);

@@ -8,8 +8,8 @@ use crate::model::year::{Line, LINES};
 use crate::script::{Call, YearFields};
 
 impl Generator {
-    /// Books at and just past their limits, beside good and bad logs.
-    pub fn book_work(&mut self) {
+    /// A log of few outages or none, with its regime end, and years 1 to 5.
+    pub fn put_log_and_years(&mut self) -> u32 {
         let regime_end = self.random.fair_regime_end();
         let count = self.random.below(4) as usize;
         let outages = self.random.outages(count, 0, 12_000_000);
@@ -18,6 +18,12 @@ impl Generator {
             let fields = self.random.fair_fields(k + 1, 0);
             self.call(Call::SetYear { k, fields });
         }
+        regime_end
+    }
+
+    /// Books at and just past their limits, beside good and bad logs.
+    pub fn book_work(&mut self) {
+        let regime_end = self.put_log_and_years();
         for _ in 0..14 {
             let mut book = self.random.fair_book(regime_end);
             match self.random.below(5) {
