@@ -208,6 +208,17 @@ mod tests {
         seen
     }
 
+    /// What a quotient is a half of, if it is one.
+    pub fn half_of(numerator: i128, denominator: i128) -> Option<&'static str> {
+        let (pounds, rest) = (numerator.abs() / denominator, numerator.abs() % denominator);
+        (2 * rest == denominator).then_some(match (numerator > 0, pounds % 2 == 0) {
+            (true, true) => "a half and an even number",
+            (true, false) => "a half and an odd number",
+            (false, true) => "a half and an even number, below zero",
+            (false, false) => "a half and an odd number, below zero",
+        })
+    }
+
     #[test]
     fn a_block_stands_alone() {
         let mut generator = Generator::new(11);

@@ -1,7 +1,7 @@
 -- The marked figures, all under one theorem: each by a result that meets what the call promises. Assumes nothing.
 use mathlib.Core.Path.{_≡_, refl, sym, ap, _∙_}
 use mathlib.Core.Bool.{Bool, true, false, cond, not, _&&_}
-use mathlib.Core.List.{[], _∷_, List}
+use mathlib.Core.List.{[], _∷_, List, map}
 use Prim.Native.Nat.{ℕ, _+_, _-_, _*_, suc, _/_}
 use native.Mathlib.Omega.{arith}
 use lib.Dec.{leb, eqb, leb·zero, lit≤}
@@ -22,6 +22,7 @@ use Rattle.levels.specs.Levels.{levelOf, capLevel, floorLevel, floorOf, levelFi
 use Rattle.levels.proofs.Only.{only-target, only-levels}
 use Rattle.levels.specs.declared.measuring.Target.the-variants as target
 use Rattle.levels.specs.declared.levelling.Levels.the-variants as levels
+use Rattle.revenue.specs.Revenue.{poundsOf}
 use Rattle.balances.specs.Balance.{carryOf, balanceAfter, laterWithin, goodAmounts}
 use Rattle.balances.specs.Assessment.{notNegative, heldBetween, assessRows, assessGiven, AssessGives}
 use Rattle.balances.specs.declared.assessing.Figures.{Figures}
@@ -36,7 +37,7 @@ use Rattle.settlement.proofs.Only.{only-gap, only-growth, only-pay}
 use Rattle.settlement.specs.declared.medians.Gap.the-variants as gap
 use Rattle.settlement.specs.declared.table.Growth.the-variants as growth
 use Rattle.settlement.specs.declared.paying.Payment.the-variants as payment
-use Rattle.demands.specs.Figures.{outFor, noOutage, wholeYear, bookWith, fiveYears, FiveFigures, MarkedFigures}
+use Rattle.demands.specs.Figures.{outFor, noOutage, wholeYear, bookWith, euroLine, fiveYears, FiveFigures, MarkedFigures}
 
 -- ---- levels
 -- the levels of a book that asks for nothing in year one, in a whole year without an outage
@@ -85,6 +86,10 @@ past : LevelsGives (bookWith 970873787) (wholeYear 10300 10000) noOutage (levels
 unfolding goodBook levelOf roundZ onMagnitude roundDiv upOf
 past = levels-past 970873787 10300 10000 (pos 1000000001) (pos 48807317) refl refl refl refl refl
 
+half : LevelsGives (bookWith 666666667) (wholeYear 15000 10000) noOutage (levels.Pounds (pos 1000000000) (pos 48807317))
+unfolding goodBook levelOf roundZ onMagnitude roundDiv upOf
+half = levels-are 666666667 15000 10000 (pos 1000000000) (pos 48807317) refl refl refl refl refl
+
 -- ---- targets
 -- the target, entry by entry
 by-entries : (log : Log) (number : ℕ)
@@ -115,9 +120,18 @@ unfolding goodBook validRow yearStart daysTo
 marked-leap = (refl, given-as (outFor 482400 106272) 2 refl true (by-entries (outFor 482400 106272) 2 ∙ refl))
 
 -- ---- carries
-carries : carryOf (pos 1250) 10000 10000 ∷ carryOf (negsuc 1249) 10000 10000 ∷ carryOf (pos 50000000) 10000 10200 ∷ [] ≡ pos 1299 ∷ negsuc 1298 ∷ pos 52978800 ∷ []
+carries : carryOf (pos 1250) 10000 10000 ∷ carryOf (negsuc 1249) 10000 10000 ∷ carryOf (pos 50000000) 10000 10200 ∷ [] ≡ pos 1298 ∷ negsuc 1297 ∷ pos 52978800 ∷ []
 unfolding upOf roundDiv onMagnitude roundZ carryOf
 carries = refl
+
+-- ---- euro lines
+converted : map (λ (z : ℤ). poundsOf 50000 (euroLine z)) (pos 1 ∷ pos 3 ∷ pos 5 ∷ []) ≡ pos 0 ∷ pos 2 ∷ pos 2 ∷ []
+unfolding upOf roundDiv onMagnitude roundZ poundsOf
+converted = refl
+
+converted-back : map (λ (z : ℤ). poundsOf 50000 (euroLine z)) (negℤ (pos 1) ∷ negℤ (pos 3) ∷ negℤ (pos 5) ∷ []) ≡ pos 0 ∷ negℤ (pos 2) ∷ negℤ (pos 2) ∷ []
+unfolding upOf roundDiv onMagnitude roundZ poundsOf
+converted-back = refl
 
 -- ---- an assessment
 accepted : firstApplicable (assessRows fiveYears) ≡ 0
@@ -206,6 +220,7 @@ marked = record {
   rounded-once = λ r g. only-levels (bookWith 83806406) (wholeYear 10200 11000) noOutage r (levels.Pounds (pos 94030788) (pos 53688049)) g once;
   cap-most = λ r g. only-levels (bookWith 961538462) (wholeYear 10000 10400) noOutage r (levels.Pounds (pos 1000000000) (pos 50759610)) g at-most;
   cap-past = λ r g. only-levels (bookWith 970873787) (wholeYear 10300 10000) noOutage r (levels.Refused TooLarge) g past;
+  cap-half = λ r g. only-levels (bookWith 666666667) (wholeYear 15000 10000) noOutage r (levels.Pounds (pos 1000000000) (pos 48807317)) g half;
   carry = place 0 carries;
   carry-back = place 1 carries;
   carry-index = place 2 carries;
@@ -218,4 +233,6 @@ marked = record {
   gap-most = λ earlier later e l d r g. only-gap earlier later r (gap.Hundredths 499) g (longest earlier later e l d);
   gap-past = λ earlier later e l d r g. only-gap earlier later r (gap.Refused BadPeriod) g (past-longest earlier later e l d);
   pays-back = λ r g. only-pay (negℤ (pos 10000001)) 100 r (payment.Pounds (negℤ (pos 10388001))) g pays-back;
+  euros = converted;
+  euros-back = converted-back;
 }

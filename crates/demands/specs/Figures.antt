@@ -1,12 +1,13 @@
 -- The figures of the rules, section 13, as what the calls give.
 use mathlib.Core.Path.{_≡_}
 use mathlib.Core.Bool.{true, false}
-use mathlib.Core.List.{List, [], _∷_}
+use mathlib.Core.List.{List, [], _∷_, map}
 use Prim.Native.Nat.{ℕ, _+_}
-use lib.IntN.{pos, negℤ}
+use lib.IntN.{ℤ, pos, negℤ}
 use Rattle.refusals.specs.declared.Refusal.the-variants.{TooLarge, BadPeriod}
 use Rattle.outage.specs.declared.Log.{Log}
 use Rattle.outage.specs.Log.{logHolding, lastRegimeEnd}
+use Rattle.year.specs.declared.Line.{Line}
 use Rattle.year.specs.declared.Year.{Year}
 use Rattle.year.specs.Year.{freshYear}
 use Rattle.levels.specs.declared.Book.{Book}
@@ -17,6 +18,7 @@ use Rattle.levels.specs.declared.levelling.Levels.the-variants as levels
 use Rattle.levels.specs.Book.{publishedBook}
 use Rattle.levels.specs.Availability.{TargetGives}
 use Rattle.levels.specs.Levels.{LevelsGives}
+use Rattle.revenue.specs.Revenue.{poundsOf}
 use Rattle.balances.specs.declared.assessing.Yearly.{Yearly}
 use Rattle.balances.specs.declared.assessing.Assessment.{Assessment}
 use Rattle.balances.specs.Balance.{carryOf}
@@ -69,6 +71,10 @@ bookWith pcl = record {
   «miss_factor» = publishedBook .«miss_factor»;
 }
 
+-- a line of so many euros
+abbrev pub euroLine : ℤ → Line
+euroLine amount = record { kind = 10; currency = 1; amount = amount }
+
 -- rule 13.4: five years alike but for W, which the second alone has
 abbrev pub five : {A : Type 0} → A → List A
 five a = a ∷ a ∷ a ∷ a ∷ a ∷ []
@@ -108,9 +114,11 @@ pub record MarkedFigures : Type 0 where
   pub cap-most : (r : Levels) → LevelsGives (bookWith 961538462) (wholeYear 10000 10400) noOutage r → r ≡ levels.Pounds (pos 1000000000) (pos 50759610)
   -- 10^9 and 61 hundredths are past it
   pub cap-past : (r : Levels) → LevelsGives (bookWith 970873787) (wholeYear 10300 10000) noOutage r → r ≡ levels.Refused TooLarge
+  -- 10^9 and a half are 10^9, the even neighbour
+  pub cap-half : (r : Levels) → LevelsGives (bookWith 666666667) (wholeYear 15000 10000) noOutage r → r ≡ levels.Pounds (pos 1000000000) (pos 48807317)
   -- rule 13.3: halves of either sign. No call carries alone, so this is of what every balance is carried by
-  pub carry : carryOf (pos 1250) 10000 10000 ≡ pos 1299
-  pub carry-back : carryOf (negℤ (pos 1250)) 10000 10000 ≡ negℤ (pos 1299)
+  pub carry : carryOf (pos 1250) 10000 10000 ≡ pos 1298
+  pub carry-back : carryOf (negℤ (pos 1250)) 10000 10000 ≡ negℤ (pos 1298)
   -- and to another index
   pub carry-index : carryOf (pos 50000000) 10000 10200 ≡ pos 52978800
   pub five-years : (r : Assessment) → AssessGives fiveYears r → FiveFigures r
@@ -129,3 +137,6 @@ pub record MarkedFigures : Type 0 where
       → (r : Gap) → GapGives earlier later r → r ≡ gap.Refused BadPeriod
   -- rule 13.7: a payment back, rounded toward zero
   pub pays-back : (r : Payment) → PayGives (negℤ (pos 10000001)) 100 r → r ≡ payment.Pounds (negℤ (pos 10388001))
+  -- rule 13.8: euro lines that are halves in pounds, of either sign. No call converts alone, so this is of what every line is converted by
+  pub euros : map (λ (z : ℤ). poundsOf 50000 (euroLine z)) (pos 1 ∷ pos 3 ∷ pos 5 ∷ []) ≡ pos 0 ∷ pos 2 ∷ pos 2 ∷ []
+  pub euros-back : map (λ (z : ℤ). poundsOf 50000 (euroLine z)) (negℤ (pos 1) ∷ negℤ (pos 3) ∷ negℤ (pos 5) ∷ []) ≡ pos 0 ∷ negℤ (pos 2) ∷ negℤ (pos 2) ∷ []

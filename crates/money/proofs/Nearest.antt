@@ -1,27 +1,48 @@
--- The rounding rule. Only `up-near` looks into `upOf`: every other law follows from it, for any divisor above 0. Assumes nothing.
+-- The rounding rule. Only `up-near`, `up-most` and `up-even` look into `upOf`: every other law follows from them, for any divisor
+-- above 0. Assumes nothing.
 use mathlib.Core.Path.{_≡_, refl, sym, ap, _∙_, subst}
 use mathlib.Core.Bool.{Bool, true, false, cond, _&&_}
-use mathlib.Core.Logic.{⊎-elim}
+use mathlib.Core.Logic.{_⊎_, inl, inr, ⊎-elim}
 use Prim.Native.Nat.{ℕ, zero, suc, _+_, _*_, _-_, _/_, _%_, _^_, _≤_, _<_}
-use native.Mathlib.Nat.{eq-or-lt-of-le, div-add-mod', div-eq-of-lt, mod-eq-of-lt, mod-lt, add-mul, le-mul-of-pos-right, lt-of-mul-lt-mul-right, mul-add-div-right, mul-add-mod-self-right}
+use native.Mathlib.Nat.{eq-or-lt-of-le, div-add-mod', div-eq-of-lt, mod-eq-of-lt, mod-lt, add-mul, le-mul-of-pos-right, lt-of-mul-lt-mul-right, mul-add-div-right, mul-add-mod-self-right, mul-le-mul-right}
 use native.Mathlib.Omega.{arith}
-use lib.Dec.{T, leb}
+use lib.Dec.{T, leb, ltb, eqb}
 use lib.IntN.{ℤ, pos, negsuc, negℤ, natAbs, negℤ-negℤ, _-ℤ_, _*ℤ_}
 use lib.Signed.{ltZ}
-use borrow.Author.Tests.{ltb-true, lt-ltb, le-leb, lt-leb, leb-true, leb-false}
+use borrow.Author.Tests.{ltb-true, ltb-false, eqb-true, lt-ltb, le-ltb, eq-eqb, le-leb, lt-leb}
 use Rattle.money.specs.Pounds.{mostWhole, saturated}
 use Rattle.money.specs.Rounding.{upOf, roundedOf, roundDiv, onMagnitude, roundZ, inReach, scaledOf}
+use Rattle.money.specs.Theorems.{IsNearest}
 use Rattle.money.proofs.Pounds.{abs-neg, saturated-small}
 use Rattle.money.proofs.Parts.{AtMost, over, under, diff, abs, within-half, neg-over, neg-under, times-over, times-under, to-eq}
-
-half-or-none : (r d : ℕ) → r < d → (t : Bool) → leb d (2 * r) ≡ t → (2 * (cond t 1 0 * d) ≤ 2 * r + d) × (2 * r ≤ 2 * (cond t 1 0 * d) + d)
-half-or-none r d h true e = omega (arith, leb-true d (2 * r) e)
-half-or-none r d h false e = omega (arith, leb-false d (2 * r) e)
 
 -- what is added, times the divisor, is within half the divisor of the rest
 up-near : (q r d : ℕ) → r < d → (2 * (upOf q r d * d) ≤ 2 * r + d) × (2 * r ≤ 2 * (upOf q r d * d) + d)
 unfolding upOf
-up-near q r d h = half-or-none r d h (leb d (2 * r)) refl
+up-near q r d h = by (ltb d (2 * r)) refl (eqb d (2 * r)) refl
+  where
+    by : (past : Bool) → ltb d (2 * r) ≡ past → (half : Bool) → eqb d (2 * r) ≡ half
+        → (2 * (cond past 1 (cond half (q % 2) 0) * d) ≤ 2 * r + d) × (2 * r ≤ 2 * (cond past 1 (cond half (q % 2) 0) * d) + d)
+    by true e half f = omega (arith, ltb-true d (2 * r) e)
+    by false e true f =
+        let most : q % 2 ≤ 1 = omega arith in
+        omega (arith, eqb-true d (2 * r) f, mul-le-mul-right d most)
+    by false e false f = omega (arith, ltb-false d (2 * r) e)
+
+-- it is 0 or 1
+up-most : (q r d : ℕ) → upOf q r d ≤ 1
+unfolding upOf
+up-most q r d = by (ltb d (2 * r)) (eqb d (2 * r))
+  where
+    by : (past half : Bool) → cond past 1 (cond half (q % 2) 0) ≤ 1
+    by true half = omega arith
+    by false true = omega arith
+    by false false = omega arith
+
+-- at a half, it makes the quotient even
+up-even : (q r d : ℕ) → d ≡ 2 * r → (q + upOf q r d) % 2 ≡ 0
+unfolding upOf
+up-even q r d e = simp (le-ltb d (2 * r) (omega arith), eq-eqb d (2 * r) e) (omega arith)
 
 -- within a half: the rounded quotient times the divisor is within half the divisor of what is divided
 pub round-div-near : (n d : ℕ) → 0 < d → (2 * (roundDiv n d * d) ≤ 2 * n + d) × (2 * n ≤ 2 * (roundDiv n d * d) + d)
@@ -29,6 +50,26 @@ unfolding roundDiv
 round-div-near n d h =
     omega
     (arith, add-mul (n / d) (upOf (n / d) (n % d) d) d, div-add-mod' n d, up-near (n / d) (n % d) d (mod-lt n h))
+
+-- a rest that leaves half the divisor on either side is half of it
+half-rest : (u r d : ℕ) → u ≤ 1 → r < d → (2 * (u * d) ≡ 2 * r + d) ⊎ (2 * r ≡ 2 * (u * d) + d) → d ≡ 2 * r
+half-rest zero r d _ h (inl e) = absurd (omega arith)
+half-rest zero r d _ h (inr e) = omega arith
+half-rest (suc zero) r d _ h (inl e) = omega arith
+half-rest (suc zero) r d _ h (inr e) = absurd (omega arith)
+half-rest (suc (suc u)) r d l h e = absurd (omega arith)
+
+-- to even: where the rounded quotient times the divisor is half the divisor from what is divided, it is even
+pub round-div-even : (n d : ℕ) → 0 < d → (2 * (roundDiv n d * d) ≡ 2 * n + d) ⊎ (2 * n ≡ 2 * (roundDiv n d * d) + d) → roundDiv n d % 2 ≡ 0
+unfolding roundDiv
+round-div-even n d h away =
+    let u : ℕ = upOf (n / d) (n % d) d in
+    up-even (n / d) (n % d) d
+    (half-rest u (n % d) d (up-most (n / d) (n % d) d) (mod-lt n h)
+    (⊎-elim
+    (λ (e : 2 * ((n / d + u) * d) ≡ 2 * n + d). inl (omega (arith, add-mul (n / d) u d, div-add-mod' n d)))
+    (λ (e : 2 * n ≡ 2 * ((n / d + u) * d) + d). inr (omega (arith, add-mul (n / d) u d, div-add-mod' n d)))
+    away))
 
 -- ---- on the magnitude
 -- of a number below zero
@@ -69,6 +110,16 @@ abs-times (pos n) by = refl
 abs-times (negsuc n) by = abs-neg (pos (suc n * by))
 
 -- ---- with a sign
+-- a multiple of a number turned round has nothing above zero
+none-over : (r d : ℕ) → over (negℤ (pos r) *ℤ pos d) ≡ 0
+unfolding under
+none-over r d = times-over (negℤ (pos r)) d ∙ ap (λ (k : ℕ). k * d) (neg-over (pos r)) ∙ omega arith
+
+-- and all of it below
+all-under : (r d : ℕ) → under (negℤ (pos r) *ℤ pos d) ≡ r * d
+unfolding over
+all-under r d = times-under (negℤ (pos r)) d ∙ ap (λ (k : ℕ). k * d) (neg-under (pos r))
+
 -- within a half: the rounded quotient times the divisor is within half the divisor of what is divided
 pub round-near : (z : ℤ) (d : ℕ) → 0 < d → 2 * natAbs (roundZ z d *ℤ pos d -ℤ z) ≤ d
 unfolding roundZ onMagnitude over under
@@ -80,14 +131,12 @@ round-near (negsuc n) d h =
     let r : ℕ = roundDiv (suc n) d in
     let near = round-div-near (suc n) d h in
     let by = diff (negℤ (pos r) *ℤ pos d) (negsuc n) in
-    let none : over (negℤ (pos r) *ℤ pos d) ≡ 0 = omega (arith, times-over (negℤ (pos r)) d, ap (λ (k : ℕ). k * d) (neg-over (pos r))) in
-    let all : under (negℤ (pos r) *ℤ pos d) ≡ r * d = times-under (negℤ (pos r)) d ∙ ap (λ (k : ℕ). k * d) (neg-under (pos r)) in
-    within-half (negℤ (pos r) *ℤ pos d -ℤ negsuc n) d (omega arith) (omega arith)
+    within-half (negℤ (pos r) *ℤ pos d -ℤ negsuc n) d (omega (arith, none-over r d, all-under r d)) (omega (arith, none-over r d, all-under r d))
 
--- r times d lies near a and s times d near b: where the two distances are less than d and what b is past a, r is at most s
-ordered : (r s a b : ℤ) (d : ℕ) → natAbs (r *ℤ pos d -ℤ a) + natAbs (s *ℤ pos d -ℤ b) + (over a + under b) < d + (over b + under a) → AtMost r s
-ordered r s a b d h =
-    let less : (over r + under s) * d < (over s + under r + 1) * d = omega (
+-- r times d lies near a and s times d near b: where the two distances are less than k times d and what b is past a, r is less than k past s
+apart : (r s a b : ℤ) (d k : ℕ) → natAbs (r *ℤ pos d -ℤ a) + natAbs (s *ℤ pos d -ℤ b) + (over a + under b) < k * d + (over b + under a) → over r + under s < over s + under r + k
+apart r s a b d k h =
+    let less : (over r + under s) * d < (over s + under r + k) * d = omega (
       arith,
       abs (r *ℤ pos d -ℤ a),
       abs (s *ℤ pos d -ℤ b),
@@ -99,10 +148,13 @@ ordered r s a b d h =
       times-under s d,
       add-mul (over r) (under s) d,
       add-mul (over s) (under r) d,
-      add-mul (over s + under r) 1 d,
+      add-mul (over s + under r) k d,
     ) in
-    let lt = lt-of-mul-lt-mul-right d less in
-    omega arith
+    lt-of-mul-lt-mul-right d less
+
+-- less than d: r is at most s
+ordered : (r s a b : ℤ) (d : ℕ) → natAbs (r *ℤ pos d -ℤ a) + natAbs (s *ℤ pos d -ℤ b) + (over a + under b) < d + (over b + under a) → AtMost r s
+ordered r s a b d h = omega (arith, apart r s a b d 1 (omega arith))
 
 -- what lies nearer than half the divisor to q times it rounds to q
 pub round-to : (z q : ℤ) (d : ℕ) → 2 * natAbs (q *ℤ pos d -ℤ z) < d → roundZ z d ≡ q
@@ -228,3 +280,51 @@ pub scaled-small : (z : ℤ) (by over k : ℕ) → 0 < over → natAbs z * by �
 unfolding scaledOf
 scaled-small z by over k h le =
     cond-small (inReach z by over) (roundZ (z *ℤ pos by) over) k (rw (abs-round z by over) (round-le (natAbs z * by) k over h le))
+
+-- ---- rule 1.5, by what it asks
+-- where w is a less b, and half of d in magnitude, one of the two is half of d past the other
+away : (w : ℤ) (a b d : ℕ) → over w + b ≡ under w + a → 2 * natAbs w ≡ d → (2 * a ≡ 2 * b + d) ⊎ (2 * b ≡ 2 * a + d)
+unfolding over under
+away (pos k) a b d e h = inl (omega arith)
+away (negsuc k) a b d e h = inr (omega arith)
+
+-- what is rounded is the nearest, and even where it is half the divisor away
+pub rounded-nearest : (z : ℤ) (d : ℕ) → 0 < d → IsNearest z d (roundZ z d)
+unfolding roundZ onMagnitude over under
+rounded-nearest (pos n) d h = record {
+  near = round-near (pos n) d h;
+  even = λ e.
+      let by = diff (pos (roundDiv n d * d)) (pos n) in
+      round-div-even n d h (away (pos (roundDiv n d * d) -ℤ pos n) (roundDiv n d * d) n d (omega arith) e);
+}
+rounded-nearest (negsuc n) d h =
+    let r : ℕ = roundDiv (suc n) d in
+    let by = diff (negℤ (pos r) *ℤ pos d) (negsuc n) in
+    record {
+      near = round-near (negsuc n) d h;
+      even = λ e.
+          rw (abs-neg (pos r))
+          (round-div-even (suc n) d h (⊎-elim inr inl (away (negℤ (pos r) *ℤ pos d -ℤ negsuc n) (suc n) (r * d) d (omega (arith, none-over r d, all-under r d)) e)));
+    }
+
+-- and no other number is
+pub nearest-rounded : (z r : ℤ) (d : ℕ) → 0 < d → IsNearest z d r → r ≡ roundZ z d
+nearest-rounded z r d h n = ⊎-elim half (λ (lt : 2 * natAbs (r *ℤ pos d -ℤ z) < d). sym (round-to z r d lt)) (eq-or-lt-of-le (n .near))
+  where
+    half : 2 * natAbs (r *ℤ pos d -ℤ z) ≡ d → r ≡ roundZ z d
+    half e = to-eq r (roundZ z d) (⊎-elim both one (eq-or-lt-of-le (rounded-nearest z d h .near)))
+      where
+        both : 2 * natAbs (roundZ z d *ℤ pos d -ℤ z) ≡ d → over r + under (roundZ z d) ≡ over (roundZ z d) + under r
+        both f =
+            omega (
+              arith,
+              apart r (roundZ z d) z z d 2 (omega arith),
+              apart (roundZ z d) r z z d 2 (omega arith),
+              n .even e,
+              rounded-nearest z d h .even f,
+              abs r,
+              abs (roundZ z d),
+            )
+
+        one : 2 * natAbs (roundZ z d *ℤ pos d -ℤ z) < d → over r + under (roundZ z d) ≡ over (roundZ z d) + under r
+        one lt = omega (arith, ordered r (roundZ z d) z z d (omega arith), ordered (roundZ z d) r z z d (omega arith))

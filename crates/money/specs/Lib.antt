@@ -1,3 +1,4 @@
 -- Signed whole pounds, and the rounding rule.
 pub mod Pounds
 pub mod Rounding
+pub mod Theorems

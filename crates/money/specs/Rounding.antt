@@ -1,13 +1,13 @@
--- Rule 1.5: to nearest, a half away from zero. What becomes of a half stands in `upOf` alone.
+-- Rule 1.5: to nearest, a half to the even neighbour. What becomes of a half stands in `upOf` alone.
 use Prim.Native.Nat.{ℕ, suc, _+_, _*_, _/_, _%_, min}
 use mathlib.Core.Bool.{Bool, cond, _&&_}
-use lib.Dec.{leb, ltb}
+use lib.Dec.{leb, ltb, eqb}
 use lib.IntN.{ℤ, pos, negsuc, negℤ, natAbs, _*ℤ_}
 use Rattle.money.specs.Pounds.{mostWhole}
 
--- what the rest of a division by d adds to its quotient q: 1 where it rounds up, else 0. A half rounds up
+-- what the rest of a division by d adds to its quotient q: 1 where it rounds up, else 0. A half rounds up where q is odd
 unfoldable pub upOf : ℕ → ℕ → ℕ → ℕ
-upOf q rest d = cond (leb d (2 * rest)) 1 0
+upOf q rest d = cond (ltb d (2 * rest)) 1 (cond (eqb d (2 * rest)) (q % 2) 0)
 
 -- a rest that is below its divisor, and a divisor of at most 10^12; so it is not 0
 abbrev pub isRest : ℕ → ℕ → Bool

@@ -1,4 +1,4 @@
-// The rounding rule, 1.5: to nearest, a half away from zero.
+// The rounding rule, 1.5: to nearest, a half to the even neighbour.
 use super::credit;
 use super::debit;
 use super::is_negative;
@@ -16,7 +16,13 @@ fn up(q: u64, rest: u64, d: u64) -> u64
     requires { ⌜ (rest < d) × (d ≤ 1000000000000) ⌝ }
     ensures { λ r. ⌜ r ≡ upOf q rest d ⌝ }
 {
-    if d <= 2 * rest { 1 } else { 0 }
+    if d < 2 * rest {
+        return 1;
+    }
+    if d == 2 * rest {
+        return q % 2;
+    }
+    0
 }
 
 // A quotient rounded by the rest of its division, saturated: for a divisor of 1 to 10^12 and a rest below it; else 0.

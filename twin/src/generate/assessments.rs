@@ -32,12 +32,14 @@ impl Generator {
     pub fn assessment_work(&mut self) {
         for _ in 0..40 {
             let mut rows = self.plain_rows();
-            match self.random.below(10) {
+            match self.random.below(13) {
                 0 | 1 => self.widen(&mut rows),
                 2 | 3 => self.steer_to_limit(&mut rows),
                 4 | 5 => self.close_floor(&mut rows),
                 6 | 7 => self.spoil_rows(&mut rows),
                 8 => self.hold_revenue(&mut rows),
+                9 | 10 => self.carry_halves(&mut rows),
+                11 => self.carry_half_to_limit(&mut rows),
                 _ => (),
             }
             self.call(Call::Assess { rows });
@@ -75,11 +77,17 @@ impl Generator {
         }
     }
 
+    /// One of a row's four amounts, and a sign that it can have.
+    fn column_and_sign(&mut self) -> (usize, i128) {
+        let column = self.random.below(4) as usize;
+        let sign = if (1..=2).contains(&column) || self.random.one_in(2) { 1 } else { -1 };
+        (column, sign)
+    }
+
     /// A balance at or just past 10^10 after one of the later years.
     fn steer_to_limit(&mut self, rows: &mut [Row; 5]) {
-        let column = self.random.below(4) as usize;
+        let (column, sign) = self.column_and_sign();
         let place = self.random.between(1, 4) as usize;
-        let sign = if (1..=2).contains(&column) || self.random.one_in(2) { 1 } else { -1 };
         for row in rows.iter_mut() {
             row.index = 5_000 + self.random.below(3) as u32;
         }
@@ -100,6 +108,47 @@ impl Generator {
         }
         if column == 2 && self.random.one_in(2) {
             // The cap follows the floor, so that no 10 is left.
+            rows.iter_mut().for_each(|row| row.cap = row.floor);
+        }
+    }
+
+    /// Balances that are halves where they are carried: odd multiples of 1,250 at
+    /// one index, odd numbers from index 1.0388 to an odd multiple of 0.5.
+    fn carry_halves(&mut self, rows: &mut [Row; 5]) {
+        rows[0].index = self.random.pick(&[10_388, rows[0].index]);
+        for place in 0..4 {
+            let index = rows[place].index;
+            let (next, unit) = match index {
+                10_388 => (self.random.pick(&[5_000, 15_000, 25_000]), 1),
+                _ if self.random.one_in(3) => (10_388, 1_250),
+                _ => (index, 1_250),
+            };
+            rows[place + 1].index = next;
+            for column in 0..4 {
+                let carried = carried_into(rows, place, column);
+                let wanted = match column {
+                    1 => carried / unit + self.random.between(1, 4_000),
+                    2 => carried / unit + self.random.between(1, 200),
+                    _ => self.random.between(-4_000, 4_000),
+                };
+                *amount(&mut rows[place], column) = (unit * (wanted | 1) - carried) as i64;
+            }
+        }
+    }
+
+    /// A balance that is carried to 10^10 and a half, or a pound beside that: one
+    /// and a half times 6,666,666,667, from index 1.0388 to 1.5.
+    fn carry_half_to_limit(&mut self, rows: &mut [Row; 5]) {
+        let (column, sign) = self.column_and_sign();
+        let years = [(5_000, MOST), (5_000, MOST), (5_000, 900_000_000), (10_388, 0), (15_000, 0)];
+        for (row, (index, most)) in rows.iter_mut().zip(years) {
+            *row = Row { index, ..Row::default() };
+            let less = if most > 0 { self.random.below(1_000) as i64 } else { 0 };
+            *amount(row, column) = sign as i64 * (most - less);
+        }
+        let wanted = sign * (6_666_666_667 + self.random.pick(&[-1, 0, 0, 0, 1]));
+        *amount(&mut rows[3], column) = (wanted - carried_into(rows, 3, column)) as i64;
+        if column == 2 {
             rows.iter_mut().for_each(|row| row.cap = row.floor);
         }
     }
@@ -246,5 +295,49 @@ impl Generator {
         if !self.random.one_in(5) {
             self.call(Call::SetYear { k, fields: before });
         }
+    }
+}
+
+#[cfg(test)]
+mod tests {
+    use super::*;
+    use crate::desk::Desk;
+    use crate::generate::tests::{half_of, seen_in};
+    use crate::generate::Block;
+
+    /// The halves that an assessment carries, and those of them at its limit.
+    fn edges(_: &Desk, call: &Call, answer: &str) -> Vec<String> {
+        let Call::Assess { rows } = call else { return Vec::new() };
+        if !answer.starts_with("0 ") {
+            return Vec::new();
+        }
+        let mut edges = Vec::new();
+        for (column, name) in ["A", "C", "F", "W"].iter().enumerate() {
+            for place in 1..5 {
+                let mut before = rows[place - 1];
+                let own = *amount(&mut before, column) as i128;
+                let balance = carried_into(rows, place - 1, column) + own;
+                let product = balance * 10_388 * rows[place].index as i128;
+                let divisor = 10_000 * before.index as i128;
+                let Some(half) = half_of(product, divisor) else { continue };
+                edges.push(format!("{name}: {half}"));
+                if product.abs() / divisor == 10_000_000_000 {
+                    edges.push(format!("{name} of 10^10 and more: {half}"));
+                }
+            }
+        }
+        edges
+    }
+
+    fn assessment_block(generator: &mut Generator) -> Block {
+        generator.block("assessment", Generator::assessment_work)
+    }
+
+    #[test]
+    fn the_halves_of_carries_are_frequent() {
+        // About as many as there are among 100,000 calls. C and F are not below 0.
+        let seen = seen_in(90, assessment_block, edges);
+        assert_eq!(seen.len(), 2 * (4 + 2) + 2 * (2 + 1), "{seen:?}");
+        assert!(seen.values().all(|times| *times >= 10), "{seen:?}");
     }
 }

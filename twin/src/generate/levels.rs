@@ -173,14 +173,14 @@ impl Random {
     /// The largest sum whose level is 10^9, or the least whose level is more:
     /// of many factors, those whose product is nearest to the half between.
     fn level_near_limit(&mut self, pppi: u32, incentives: &Incentives) -> Level {
-        let (half, above) = (LIMIT + POUND / 2, self.one_in(2));
+        let (half, above) = (LIMIT + POUND / 2, self.one_in(2) as i128);
         let mut closest = Level { sum: MOST, part_year: 10_000, incentive: *incentives.end() };
         let mut least = POUND;
         for _ in 0..60 {
             let part_year = self.between(1, 10_000) as u16;
             let incentive = self.between(*incentives.start() as i128, *incentives.end() as i128);
             let factor = part_year as i128 * incentive.max(1) * pppi as i128;
-            let sum = if above { (half + factor - 1) / factor } else { (half - 1) / factor };
+            let sum = half / factor + above;
             let gap = (half - sum * factor).abs();
             if sum <= MOST as i128 && gap < least {
                 least = gap;
@@ -345,7 +345,7 @@ mod tests {
             ("10^9", below && product == LIMIT),
             ("10^9 and 0.48", below && product == LIMIT + 480_000_000_000),
             ("10^9 and nearly a half", below && (1..POUND / 100).contains(&gap)),
-            ("10^9 and a half", past && gap == 0),
+            ("10^9 and a half", below && gap == 0),
             ("10^9 and more than a half", past && (1..POUND / 100).contains(&-gap)),
             ("10^9 less a half", below && product == LIMIT - POUND / 2),
             ("the largest product", past && product == largest),

@@ -4,8 +4,11 @@ use super::values::MOST;
 use super::Generator;
 use crate::model::book::Book;
 use crate::model::log::Slot;
-use crate::model::year::{Line, LINES};
+use crate::model::year::{Line, EURO, LINES};
 use crate::script::{Call, YearFields};
+
+/// Euros that are 10^9 and a half at their rate, and 10^9 less a half.
+const EUROS_AT_LIMIT: [(u32, i64); 2] = [(150_000, 666_666_667), (155_000, 645_161_290)];
 
 impl Generator {
     /// A log of few outages or none, with its regime end, and years 1 to 5.
@@ -76,7 +79,7 @@ impl Generator {
             };
             let mut fields = self.random.fair_fields(number, count);
             let mut lines = self.some_lines(count, fields.rate);
-            match self.random.below(8) {
+            match self.random.below(9) {
                 0 | 1 => self.random.spoil_fields(&mut fields),
                 2 if count > 0 => {
                     let place = self.random.below(count as u64) as usize;
@@ -97,6 +100,7 @@ impl Generator {
                     self.year_calls(k);
                     continue;
                 }
+                4 if count > 0 => self.put_euros_at_limit(&mut fields, &mut lines),
                 _ => (),
             }
             self.put_year(k, fields, &lines);
@@ -146,6 +150,15 @@ impl Generator {
         lines
     }
 
+    /// A rate, and one line whose half makes a total of 10^9, or a euro beside it.
+    fn put_euros_at_limit(&mut self, fields: &mut YearFields, lines: &mut [Line]) {
+        let (rate, euros) = self.random.pick(&EUROS_AT_LIMIT);
+        fields.rate = rate;
+        lines.iter_mut().for_each(|line| line.amount = 0);
+        let amount = euros + self.random.pick(&[0, 0, 0, -1, 1]);
+        lines[0] = Line { kind: self.random.pick(&[1, 2, 8, 11]), currency: EURO, amount };
+    }
+
     /// Sets a year with its lines; its log is empty.
     pub fn put_year(&mut self, k: u8, fields: YearFields, lines: &[Line]) {
         self.call(Call::FreshYear { k });
@@ -153,5 +166,42 @@ impl Generator {
         for (slot, line) in lines.iter().enumerate() {
             self.call(Call::SetLine { k, slot: slot as u8, line: *line });
         }
+    }
+}
+
+#[cfg(test)]
+mod tests {
+    use super::*;
+    use crate::desk::Desk;
+    use crate::generate::tests::{half_of, seen_in};
+    use crate::generate::Block;
+
+    /// The halves among the euro lines of a revenue, and those that make its limit.
+    fn edges(desk: &Desk, call: &Call, answer: &str) -> Vec<String> {
+        let Call::Revenue { k } = call else { return Vec::new() };
+        let year = &desk.years[*k as usize];
+        let Some(total) = answer.strip_prefix("0 ") else { return Vec::new() };
+        let mut edges = Vec::new();
+        for line in year.held_lines().iter().filter(|line| line.currency == EURO) {
+            let product = line.amount as i128 * year.rate as i128;
+            let Some(half) = half_of(product, 100_000) else { continue };
+            edges.push(half.to_string());
+            if [product / 100_000, product / 100_000 + 1].contains(&(MOST as i128)) {
+                edges.push(format!("{total} of {half}"));
+            }
+        }
+        edges
+    }
+
+    fn year_block(generator: &mut Generator) -> Block {
+        generator.block("years", Generator::year_work)
+    }
+
+    #[test]
+    fn the_halves_of_euro_lines_are_frequent() {
+        // About as many as there are among 100,000 calls.
+        let seen = seen_in(60, year_block, edges);
+        assert_eq!(seen.len(), 4 + 2 * 2, "{seen:?}");
+        assert!(seen.values().all(|times| *times >= 8), "{seen:?}");
     }
 }

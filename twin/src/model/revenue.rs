@@ -69,7 +69,21 @@ mod tests {
     fn each_euro_line_is_rounded_by_itself() {
         assert_eq!(assessed_revenue(&year(150_000, &[(1, 1, 1), (1, 1, 1)])), Ok(4));
         assert_eq!(assessed_revenue(&year(150_000, &[(7, 1, 1), (10, 1, -1)])), Ok(-4));
-        assert_eq!(assessed_revenue(&year(1, &[(1, 1, 49_999), (1, 1, 50_000)])), Ok(1));
+        assert_eq!(assessed_revenue(&year(1, &[(1, 1, 50_000), (1, 1, 50_001)])), Ok(1));
+        assert_eq!(assessed_revenue(&year(50_000, &[(1, 1, 1), (1, 1, 1)])), Ok(0));
+    }
+
+    #[test]
+    fn a_half_of_a_euro_line() {
+        for (euros, pounds) in [(1, 0), (3, 2), (5, 2), (7, 4), (-1, 0), (-3, -2), (-5, -2)] {
+            assert_eq!(assessed_revenue(&year(50_000, &[(10, 1, euros)])), Ok(pounds));
+            assert_eq!(assessed_revenue(&year(50_000, &[(11, 1, euros)])), Ok(-pounds));
+        }
+        // 666,666,667 x 1.5 is 10^9 + 0.5.
+        let most = 1_000_000_000;
+        assert_eq!(assessed_revenue(&year(150_000, &[(1, 1, 666_666_667)])), Ok(most));
+        assert_eq!(assessed_revenue(&year(150_000, &[(8, 1, 666_666_667)])), Ok(-most));
+        assert_eq!(assessed_revenue(&year(150_000, &[(1, 1, 666_666_668)])), Err(11));
     }
 
     #[test]
