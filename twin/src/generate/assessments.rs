@@ -303,7 +303,6 @@ mod tests {
     use super::*;
     use crate::desk::Desk;
     use crate::generate::tests::{half_of, seen_in};
-    use crate::generate::Block;
 
     /// The halves that an assessment carries, and those of them at its limit.
     fn edges(_: &Desk, call: &Call, answer: &str) -> Vec<String> {
@@ -329,14 +328,10 @@ mod tests {
         edges
     }
 
-    fn assessment_block(generator: &mut Generator) -> Block {
-        generator.block("assessment", Generator::assessment_work)
-    }
-
     #[test]
     fn the_halves_of_carries_are_frequent() {
         // About as many as there are among 100,000 calls. C and F are not below 0.
-        let seen = seen_in(90, assessment_block, edges);
+        let seen = seen_in(90, |all| all.block("assessment", Generator::assessment_work), edges);
         assert_eq!(seen.len(), 2 * (4 + 2) + 2 * (2 + 1), "{seen:?}");
         assert!(seen.values().all(|times| *times >= 10), "{seen:?}");
     }

@@ -332,7 +332,6 @@ mod tests {
     use super::*;
     use crate::desk::Desk;
     use crate::generate::tests::seen_in;
-    use crate::generate::Block;
 
     type Edges = Vec<(&'static str, bool)>;
 
@@ -411,14 +410,10 @@ mod tests {
         edges
     }
 
-    fn level_block(generator: &mut Generator) -> Block {
-        generator.block("levels", Generator::level_work)
-    }
-
     #[test]
     fn the_edges_of_levels_are_frequent() {
         // About as many as there are among 100,000 calls.
-        let seen = seen_in(30, level_block, edges);
+        let seen = seen_in(30, |all| all.block("levels", Generator::level_work), edges);
         assert_eq!(seen.len(), 3 * (7 + 6 + 7), "{seen:?}");
         assert!(seen.values().all(|times| *times >= 10), "{seen:?}");
     }

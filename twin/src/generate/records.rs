@@ -174,7 +174,6 @@ mod tests {
     use super::*;
     use crate::desk::Desk;
     use crate::generate::tests::{half_of, seen_in};
-    use crate::generate::Block;
 
     /// The halves among the euro lines of a revenue, and those that make its limit.
     fn edges(desk: &Desk, call: &Call, answer: &str) -> Vec<String> {
@@ -193,14 +192,10 @@ mod tests {
         edges
     }
 
-    fn year_block(generator: &mut Generator) -> Block {
-        generator.block("years", Generator::year_work)
-    }
-
     #[test]
     fn the_halves_of_euro_lines_are_frequent() {
         // About as many as there are among 100,000 calls.
-        let seen = seen_in(60, year_block, edges);
+        let seen = seen_in(60, |all| all.block("years", Generator::year_work), edges);
         assert_eq!(seen.len(), 4 + 2 * 2, "{seen:?}");
         assert!(seen.values().all(|times| *times >= 8), "{seen:?}");
     }
