@@ -1,11 +1,12 @@
 /* script CASE FULLNESS N: on standard output, a script (docs/REPLAY.md) that sets up what stands, so many per cent full,
- * and then makes the call of the case N times. CASE/base has the case's base in the call's place. */
+ * and then makes the call of the case N times. CASE/base has the case's base in the call's place. In place of FULLNESS the
+ * cases of running entries have how many run at once. */
 #include <stdint.h>
 #include <stdio.h>
 #include <stdlib.h>
 #include <string.h>
 
-enum { LOG_SLOTS = 400, LINE_SLOTS = 64, LAST_REGIME_END = 13632480, PERIOD_YEARS = 5, SPARE = 4 };
+enum { LOG_SLOTS = 400, LINE_SLOTS = 64, MOST_MW = 1000, LAST_REGIME_END = 13632480, PERIOD_YEARS = 5, SPARE = 4 };
 
 /* ---- Fields, put together in memory */
 
@@ -51,6 +52,13 @@ static void put_outage(uint32_t start, uint32_t minutes, uint16_t mw)
     put(2, mw);
 }
 
+/* A cause of 1 is left out. */
+static void put_cause(uint8_t cause)
+{
+    if (cause != 1)
+        put(1, cause);
+}
+
 static void put_line(unsigned i)
 {
     put(1, i % 11 + 1);
@@ -60,9 +68,11 @@ static void put_line(unsigned i)
 
 /* ---- The log that stands: outages over years 1 to 5, with room before, between and after them */
 
+enum { START_STEP = 6000 };
+
 static uint32_t start_of(unsigned i)
 {
-    return 6000 * (i + 1);
+    return START_STEP * (i + 1);
 }
 
 static unsigned part(unsigned slots, unsigned fullness)
@@ -70,11 +80,11 @@ static unsigned part(unsigned slots, unsigned fullness)
     return slots * fullness / 100;
 }
 
-static void stand_slot(unsigned i, uint32_t start, uint32_t minutes)
+static void stand_slot(unsigned i, uint32_t start, uint32_t minutes, uint16_t mw)
 {
     const size_t place = begin(32);
     put(2, i);
-    put_outage(start, minutes, 500);
+    put_outage(start, minutes, mw);
     end(place);
 }
 
@@ -89,7 +99,7 @@ static void stand_count(unsigned count)
 static void stand_log(unsigned count)
 {
     for (unsigned i = 0; i < count; i++)
-        stand_slot(i, start_of(i), 3000);
+        stand_slot(i, start_of(i), 3000, 500);
     stand_count(count);
 }
 
@@ -132,6 +142,41 @@ static void stand_entries(unsigned fullness)
 static void stand_nothing(unsigned fullness)
 {
     (void)fullness;
+}
+
+/* ---- The log of running entries: the same starts, and entries as long as so many steps from start to start, so that so many
+   run at once; 400 of them lose 800 MW */
+
+enum { RUNNING_MW = 2 };
+
+static uint32_t running_minutes(unsigned running)
+{
+    return START_STEP * running;
+}
+
+static void stand_running(unsigned count, unsigned running)
+{
+    for (unsigned i = 0; i < count; i++)
+        stand_slot(i, start_of(i), running_minutes(running), RUNNING_MW);
+    stand_count(count);
+}
+
+static void stand_all_running(unsigned running)
+{
+    stand_running(LOG_SLOTS, running);
+}
+
+/* All but the last. */
+static void stand_to_enter_running(unsigned running)
+{
+    stand_running(LOG_SLOTS - 1, running);
+}
+
+/* The same log in the spare year, to be taken from there again. */
+static void stand_to_cancel_running(unsigned running)
+{
+    stand_all_running(running);
+    short_field(38, 1, SPARE);
 }
 
 /* ---- The years that stand: 1 to 5 at places 0 to 4, each with lines and with the log that stands as its own */
@@ -179,11 +224,12 @@ static void put_lines(unsigned count)
 }
 
 /* Outages from a minute on, each of half a step. */
-static void put_outages(unsigned count, uint32_t first, uint32_t step)
+static void put_outages(unsigned count, uint32_t first, uint32_t step, uint8_t cause)
 {
     for (unsigned i = 0; i < count; i++) {
         const size_t outage = begin(7);
         put_outage(first + step * i, step / 2, 300);
+        put_cause(cause);
         end(outage);
     }
 }
@@ -198,7 +244,7 @@ static void put_return(unsigned fullness)
         return;
     short_field(5, 4, 9000 << 16 | 9500);
     put_lines(part(LINE_SLOTS, fullness));
-    put_outages(part(LOG_SLOTS, fullness), 482400, 1000);
+    put_outages(part(LOG_SLOTS, fullness), 482400, 1000, 2);
     short_field(8, 1, 1);
     short_field(9, 8, 250000);
 }
@@ -263,7 +309,7 @@ static void stand_touching(unsigned fullness)
 {
     const unsigned count = part(LOG_SLOTS, fullness);
     for (unsigned i = 0; i < count; i++)
-        stand_slot(i, bound(i), bound(i + 1) - bound(i));
+        stand_slot(i, bound(i), bound(i + 1) - bound(i), 500);
     stand_count(count);
 }
 
@@ -325,8 +371,8 @@ static void write_plan_with(unsigned room, unsigned fullness)
     end(place);
 }
 
-/* ---- The workbook: cells of a period, and the input that fills them, of years 1 to 5; at 100 % 64 lines and 80 outages in
-   each return, at 0 % the shortest returns */
+/* ---- The workbook: cells of a period, and the input that fills them, of years 1 to 5; at 100 % 64 lines and 80 outages of
+   cause 1 in each return, at 0 % the shortest returns */
 
 enum { AMOUNTS = 25, NUMBER_KIND = 1, DAY_KIND = 2, FIRST_DAY = 45292, LAST_DAY = 45657 };
 
@@ -389,7 +435,7 @@ static void put_filed(unsigned k, uint8_t tag, unsigned fullness)
     short_field(3, 4, 86000);
     short_field(4, 2, 10100);
     put_lines(part(LINE_SLOTS, fullness));
-    put_outages(part(LOG_SLOTS / PERIOD_YEARS, fullness), STARTS[k], 5000);
+    put_outages(part(LOG_SLOTS / PERIOD_YEARS, fullness), STARTS[k], 5000, 1);
     end(place);
 }
 
@@ -418,6 +464,12 @@ static void enter(uint32_t start)
     enter_outage(start, 1000, 200);
 }
 
+/* The last of the running entries. */
+static void enter_last(unsigned running)
+{
+    enter_outage(start_of(LOG_SLOTS - 1), running_minutes(running), RUNNING_MW);
+}
+
 static void cancel(uint32_t start)
 {
     short_field(3, 4, start);
@@ -437,10 +489,11 @@ static void enter_end(unsigned fullness)
     cancel(start_of(LOG_SLOTS));
 }
 
-static void enter_shared(unsigned fullness)
+/* One MW too many in the first minute of the first outage. */
+static void enter_clash(unsigned fullness)
 {
     (void)fullness;
-    enter(start_of(0) - 1);
+    enter_outage(start_of(0) - 1, 1000, MOST_MW - 500 + 1);
 }
 
 static void cancel_none(unsigned fullness)
@@ -459,6 +512,25 @@ static void cancel_front(unsigned fullness)
 static void cancel_end(unsigned fullness)
 {
     cancel(start_of(with_one(fullness) - 1));
+    short_field(39, 1, SPARE);
+}
+
+static void enter_running(unsigned running)
+{
+    enter_last(running);
+    cancel(start_of(LOG_SLOTS - 1));
+}
+
+/* One MW too many where the last entry starts. */
+static void clash_running(unsigned running)
+{
+    enter_outage(start_of(LOG_SLOTS - 1) - 1, 2, (uint16_t)(MOST_MW - RUNNING_MW * running + 1));
+}
+
+static void cancel_running(unsigned running)
+{
+    (void)running;
+    cancel(start_of(LOG_SLOTS - 1));
     short_field(39, 1, SPARE);
 }
 
@@ -689,42 +761,50 @@ static void fill_workbook_refused(unsigned fullness)
 
 /* ---- Cases */
 
+/* The most that the number behind a case's name may be: per cent, or how many run at once. */
+enum most { FULL = 100, ALL_RUN = LOG_SLOTS };
+
 struct bench_case {
     const char *name;
-    void (*stand)(unsigned fullness);
-    void (*call)(unsigned fullness);
-    void (*base)(unsigned fullness);
+    void (*stand)(unsigned number);
+    void (*call)(unsigned number);
+    void (*base)(unsigned number);
+    enum most most;
 };
 
 static const struct bench_case CASES[] = {
-    {"log-sum", stand_nothing, cancel_none, lost},
-    {"fresh", stand_nothing, refile_no_room, growth},
-    {"enter-front", stand_to_enter, enter_front, two_growths},
-    {"enter-end", stand_to_enter, enter_end, two_growths},
-    {"enter-shared", stand_one, enter_shared, growth},
-    {"cancel-front", stand_to_cancel, cancel_front, growth_and_take},
-    {"cancel-end", stand_to_cancel, cancel_end, growth_and_take},
-    {"cancel-none", stand_entries, cancel_none, growth},
-    {"enter-plan", stand_nothing, enter_plan, growth_and_take},
-    {"enter-each", stand_nothing, enter_each, growths_and_take},
-    {"close", stand_entries, close_call, growth},
-    {"lost", stand_entries, lost, growth},
-    {"levels", stand_years, levels, growth},
-    {"revenue", stand_years, revenue, growth},
-    {"period", stand_years, period, growth},
-    {"settle", stand_nothing, settle, growth},
-    {"read", stand_nothing, read_call, read_refused},
-    {"write", read_call, write_call, refile_nothing},
-    {"refile", stand_nothing, refile, refile_refused},
-    {"print", stand_nothing, print, print_refused},
-    {"read-sheet", stand_kept_sheet, read_sheet, growth},
-    {"write-sheet", stand_touching, write_sheet, refile_kept_nothing},
-    {"list-plan", stand_nothing, list_plan, growth},
-    {"read-plan", stand_nothing, read_plan, read_plan_refused},
-    {"write-plan", stand_nothing, write_plan, write_plan_refused},
-    {"export", stand_nothing, export, export_refused},
-    {"read-cells", stand_nothing, read_cells, read_cells_refused},
-    {"fill-workbook", stand_nothing, fill_workbook, fill_workbook_refused},
+    {"log-sum", stand_nothing, cancel_none, lost, FULL},
+    {"fresh", stand_nothing, refile_no_room, growth, FULL},
+    {"enter-front", stand_to_enter, enter_front, two_growths, FULL},
+    {"enter-end", stand_to_enter, enter_end, two_growths, FULL},
+    {"enter-clash", stand_one, enter_clash, growth, FULL},
+    {"cancel-front", stand_to_cancel, cancel_front, growth_and_take, FULL},
+    {"cancel-end", stand_to_cancel, cancel_end, growth_and_take, FULL},
+    {"cancel-none", stand_entries, cancel_none, growth, FULL},
+    {"enter-plan", stand_nothing, enter_plan, growth_and_take, FULL},
+    {"enter-each", stand_nothing, enter_each, growths_and_take, FULL},
+    {"close", stand_entries, close_call, growth, FULL},
+    {"lost", stand_entries, lost, growth, FULL},
+    {"enter-running", stand_to_enter_running, enter_running, two_growths, ALL_RUN},
+    {"clash-running", stand_all_running, clash_running, growth, ALL_RUN},
+    {"cancel-running", stand_to_cancel_running, cancel_running, growth_and_take, ALL_RUN},
+    {"lost-running", stand_all_running, lost, growth, ALL_RUN},
+    {"levels", stand_years, levels, growth, FULL},
+    {"revenue", stand_years, revenue, growth, FULL},
+    {"period", stand_years, period, growth, FULL},
+    {"settle", stand_nothing, settle, growth, FULL},
+    {"read", stand_nothing, read_call, read_refused, FULL},
+    {"write", read_call, write_call, refile_nothing, FULL},
+    {"refile", stand_nothing, refile, refile_refused, FULL},
+    {"print", stand_nothing, print, print_refused, FULL},
+    {"read-sheet", stand_kept_sheet, read_sheet, growth, FULL},
+    {"write-sheet", stand_touching, write_sheet, refile_kept_nothing, FULL},
+    {"list-plan", stand_nothing, list_plan, growth, FULL},
+    {"read-plan", stand_nothing, read_plan, read_plan_refused, FULL},
+    {"write-plan", stand_nothing, write_plan, write_plan_refused, FULL},
+    {"export", stand_nothing, export, export_refused, FULL},
+    {"read-cells", stand_nothing, read_cells, read_cells_refused, FULL},
+    {"fill-workbook", stand_nothing, fill_workbook, fill_workbook_refused, FULL},
 };
 
 static const struct bench_case *case_of(const char *name, size_t length)
@@ -735,12 +815,12 @@ static const struct bench_case *case_of(const char *name, size_t length)
     return NULL;
 }
 
-static int write_script(const struct bench_case *of, int base, unsigned fullness, unsigned long times)
+static int write_script(const struct bench_case *of, int base, unsigned number, unsigned long times)
 {
-    of->stand(fullness);
+    of->stand(number);
     fwrite(made.bytes, 1, made.used, stdout);
     made.used = 0;
-    (base ? of->base : of->call)(fullness);
+    (base ? of->base : of->call)(number);
     for (unsigned long i = 0; i < times; i++)
         fwrite(made.bytes, 1, made.used, stdout);
     return fflush(stdout) == 0 ? 0 : 1;
@@ -757,8 +837,8 @@ int main(int words, char **word)
         if (!base && word[1][length] != '\0')
             of = NULL;
     }
-    if (!of || atoi(word[2]) < 0 || atoi(word[2]) > 100) {
-        fprintf(stderr, "use: script CASE[/base] FULLNESS N, FULLNESS of 0 to 100; cases:");
+    if (!of || atoi(word[2]) < 0 || atoi(word[2]) > (int)of->most) {
+        fprintf(stderr, "use: script CASE[/base] FULLNESS N, FULLNESS of 0 to 100, or of 1 to 400 that run at once; cases:");
         for (size_t i = 0; i < sizeof CASES / sizeof *CASES; i++)
             fprintf(stderr, " %s", CASES[i].name);
         fprintf(stderr, "\n");

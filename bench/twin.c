@@ -89,6 +89,7 @@ static uint64_t add_entries(uint64_t sum, const struct entry entries[LOG_SLOTS])
         sum = add(sum, entries[i].start);
         sum = add(sum, entries[i].end);
         sum = add(sum, entries[i].mw);
+        sum = add(sum, entries[i].cause);
     }
     return sum;
 }
@@ -210,13 +211,13 @@ static bool call_empty(struct value v)
 
 static bool call_enter(struct value v)
 {
-    answer_log(enter(&the_log, get_entry(v.bytes)));
+    answer_log(enter(&the_log, get_entry(v.bytes, v.length)));
     return true;
 }
 
 static bool call_cancel(struct value v)
 {
-    answer_log(cancel(&the_log, get32(v.bytes)));
+    answer_log(cancel(&the_log, get32(v.bytes), get_cause(v.bytes, 4, v.length)));
     return true;
 }
 
@@ -462,7 +463,7 @@ static bool call_print_outage(struct value v)
 {
     uint8_t text[TEXT_BYTES];
     size_t length;
-    const int number = print_outage(get_entry(v.bytes), text, &length);
+    const int number = print_outage(get_entry(v.bytes, v.length), text, &length);
     return answer_text(number, text, length);
 }
 
@@ -472,14 +473,14 @@ static bool call_list_plan(struct value v)
 {
     struct list list;
     uint32_t failed;
-    const int number = list_plan(get32(v.bytes), get_plan(v.bytes + 4), &list, &failed);
+    const int number = list_plan(get32(v.bytes), get_plan(v.bytes + 4, v.length - 4), &list, &failed);
     return answer_placed(number, failed, list.count, add_entries(0, list.entries));
 }
 
 static bool call_enter_plan(struct value v)
 {
     uint32_t failed;
-    const int number = enter_plan(&the_log, get_plan(v.bytes), &failed);
+    const int number = enter_plan(&the_log, get_plan(v.bytes, v.length), &failed);
     return answer_placed(number, failed, the_log.count, add_log(0, &the_log));
 }
 
@@ -495,15 +496,17 @@ static bool call_read_plan(struct value v)
     figure(plan.step);
     figure(plan.count);
     figure(plan.mw);
+    figure(plan.cause);
     end_line();
     return true;
 }
 
 static bool call_write_plan(struct value v)
 {
-    const size_t size = lend(get32(v.bytes + 14));
+    const size_t width = v.length - 4; /* the room follows the plan */
+    const size_t size = lend(get32(v.bytes + width));
     size_t length;
-    const int number = write_plan(get_plan(v.bytes), lent, size, &length);
+    const int number = write_plan(get_plan(v.bytes, width), lent, size, &length);
     answer_two(number, length, byte_sum(lent, size));
     return true;
 }
@@ -625,12 +628,16 @@ static bool call_fill_workbook(struct value v)
 
 /* ---- Setting what stands */
 
+/* A cause that is left out is 0 in a slot of zeros. */
 static bool set_slot(struct value v)
 {
-    const size_t slot = get16(v.bytes);
+    const size_t slot = get16(v.bytes), width = v.length - 2;
     if (slot >= LOG_SLOTS)
         return false;
-    the_log.entries[slot] = get_entry(v.bytes + 2);
+    struct entry e = get_entry(v.bytes + 2, width);
+    if (width == ENTRY_BYTES && (e.start | e.end | e.mw) == 0)
+        e.cause = 0;
+    the_log.entries[slot] = e;
     return answer_set();
 }
 
@@ -743,6 +750,7 @@ static void show_entries(const struct log *log)
         figure(log->entries[i].start);
         figure(log->entries[i].end);
         figure(log->entries[i].mw);
+        figure(log->entries[i].cause);
     }
     end_line();
 }
@@ -832,68 +840,71 @@ static bool show_sheet(struct value v)
 
 /* ---- The script */
 
-/* A tag's call and the length of its value: exactly so many bytes, or at least so many where bytes of any number follow. */
+/* What may follow the bytes that a value always has: nothing, the byte of a cause, or bytes of any number. */
+enum more { NOTHING = 0, A_CAUSE = 1, ANYTHING = 65535 };
+
+/* A tag's call, and the length of its value. */
 struct call {
     bool (*carry_out)(struct value v);
     size_t length;
-    bool open;
+    enum more more;
 };
 
 static const struct call CALLS[] = {
-    [1] = {call_empty, 4, false},
-    [2] = {call_enter, 10, false},
-    [3] = {call_cancel, 4, false},
-    [4] = {call_lost, 8, false},
-    [5] = {call_minutes, 5, false},
-    [6] = {call_availability, 1, false},
-    [7] = {call_target, 1, false},
-    [8] = {call_levels, 1, false},
-    [9] = {call_revenue, 1, false},
-    [10] = {call_assess, 180, false},
-    [11] = {call_period, 0, false},
-    [12] = {call_gap, 16, false},
-    [13] = {call_growth, 4, false},
-    [14] = {call_pay, 12, false},
-    [15] = {call_settle, 24, false},
-    [16] = {call_reconcile, 32, false},
-    [17] = {call_read, 1, true},
-    [18] = {call_write, 3, false},
-    [19] = {call_refile, 2, true},
-    [20] = {call_print, 0, true},
-    [21] = {call_read_kept, 1, false},
-    [22] = {call_refile_kept, 4, false},
-    [23] = {call_read_sheet, 4, true},
-    [24] = {call_read_sheet_kept, 4, false},
-    [25] = {call_write_sheet, 4, false},
-    [26] = {call_print_minute, 4, false},
-    [27] = {call_print_outage, 10, false},
-    [28] = {call_close, 4, false},
-    [32] = {set_slot, 12, false},
-    [33] = {set_count, 12, false},
-    [34] = {set_book, 62, false},
-    [35] = {set_year, 33, false},
-    [36] = {set_line, 12, false},
-    [37] = {set_fresh, 1, false},
-    [38] = {set_year_log, 1, false},
-    [39] = {set_log, 1, false},
-    [40] = {keep, 0, true},
-    [41] = {forget, 0, false},
-    [42] = {set_closed, 4, false},
-    [48] = {show_log, 0, false},
-    [49] = {show_year, 1, false},
-    [50] = {show_book, 0, false},
-    [51] = {show_written, 3, false},
-    [52] = {show_sheet, 2, false},
-    [64] = {call_list_plan, 18, false},
-    [65] = {call_enter_plan, 14, false},
-    [66] = {call_read_plan, 0, true},
-    [67] = {call_write_plan, 18, false},
-    [68] = {call_make_period, 8, false},
-    [69] = {call_gap_of_medians, 48, false},
-    [70] = {call_export, 8 * AMOUNTS + 24, false},
-    [71] = {call_read_cells, CELL_BYTES * CELLS, false},
-    [72] = {call_print_cell, 4 + CELL_BYTES, false},
-    [73] = {call_fill_workbook, 0, true},
+    [1] = {call_empty, 4, NOTHING},
+    [2] = {call_enter, 10, A_CAUSE},
+    [3] = {call_cancel, 4, A_CAUSE},
+    [4] = {call_lost, 8, NOTHING},
+    [5] = {call_minutes, 5, NOTHING},
+    [6] = {call_availability, 1, NOTHING},
+    [7] = {call_target, 1, NOTHING},
+    [8] = {call_levels, 1, NOTHING},
+    [9] = {call_revenue, 1, NOTHING},
+    [10] = {call_assess, 180, NOTHING},
+    [11] = {call_period, 0, NOTHING},
+    [12] = {call_gap, 16, NOTHING},
+    [13] = {call_growth, 4, NOTHING},
+    [14] = {call_pay, 12, NOTHING},
+    [15] = {call_settle, 24, NOTHING},
+    [16] = {call_reconcile, 32, NOTHING},
+    [17] = {call_read, 1, ANYTHING},
+    [18] = {call_write, 3, NOTHING},
+    [19] = {call_refile, 2, ANYTHING},
+    [20] = {call_print, 0, ANYTHING},
+    [21] = {call_read_kept, 1, NOTHING},
+    [22] = {call_refile_kept, 4, NOTHING},
+    [23] = {call_read_sheet, 4, ANYTHING},
+    [24] = {call_read_sheet_kept, 4, NOTHING},
+    [25] = {call_write_sheet, 4, NOTHING},
+    [26] = {call_print_minute, 4, NOTHING},
+    [27] = {call_print_outage, 10, A_CAUSE},
+    [28] = {call_close, 4, NOTHING},
+    [32] = {set_slot, 12, A_CAUSE},
+    [33] = {set_count, 12, NOTHING},
+    [34] = {set_book, 62, NOTHING},
+    [35] = {set_year, 33, NOTHING},
+    [36] = {set_line, 12, NOTHING},
+    [37] = {set_fresh, 1, NOTHING},
+    [38] = {set_year_log, 1, NOTHING},
+    [39] = {set_log, 1, NOTHING},
+    [40] = {keep, 0, ANYTHING},
+    [41] = {forget, 0, NOTHING},
+    [42] = {set_closed, 4, NOTHING},
+    [48] = {show_log, 0, NOTHING},
+    [49] = {show_year, 1, NOTHING},
+    [50] = {show_book, 0, NOTHING},
+    [51] = {show_written, 3, NOTHING},
+    [52] = {show_sheet, 2, NOTHING},
+    [64] = {call_list_plan, 18, A_CAUSE},
+    [65] = {call_enter_plan, 14, A_CAUSE},
+    [66] = {call_read_plan, 0, ANYTHING},
+    [67] = {call_write_plan, 18, A_CAUSE},
+    [68] = {call_make_period, 8, NOTHING},
+    [69] = {call_gap_of_medians, 48, NOTHING},
+    [70] = {call_export, 8 * AMOUNTS + 24, NOTHING},
+    [71] = {call_read_cells, CELL_BYTES * CELLS, NOTHING},
+    [72] = {call_print_cell, 4 + CELL_BYTES, NOTHING},
+    [73] = {call_fill_workbook, 0, ANYTHING},
 };
 
 /* What was read of the script and is not carried out yet: from `at` to `end`. */
@@ -930,7 +941,7 @@ static size_t next_field(void)
     if (tag >= sizeof CALLS / sizeof *CALLS || !CALLS[tag].carry_out || !fill(3 + length))
         return 0;
     const struct call *call = &CALLS[tag];
-    if (length < call->length || (length > call->length && !call->open))
+    if (length < call->length || length - call->length > call->more)
         return 0;
     const struct value v = {in.bytes + in.at + 3, length};
     if (!call->carry_out(v))

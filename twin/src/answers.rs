@@ -5,15 +5,18 @@ use crate::model::workbook::{AMOUNTS, CELLS};
 use crate::script::{Call, CellBits};
 use crate::words::time_words;
 
-/// What a refusal's number says (rule 12.1).
-pub fn refusal_words(number: i128) -> &'static str {
+/// What a refusal's number says of a call (rule 12.1).
+pub fn refusal_words(call: &Call, number: i128) -> &'static str {
+    if let (Call::ReadSheet { .. } | Call::ReadSheetKept { .. }, 4) = (call, number) {
+        return "shares a minute with an entry";
+    }
     match number {
         1 => "the log breaks a rule",
         2 => "start not below end, or end past the regime end",
-        3 => "MW outside 1 to 1,000",
-        4 => "shares a minute with an entry",
+        3 => "MW outside 1 to 1,000, or cause 0",
+        4 => "a minute would lose more than 1,000 MW",
         5 => "400 entries held",
-        6 => "no entry has that start",
+        6 => "no entry has that start and cause",
         7 => "stretch reversed, or a minute past the regime end",
         8 => "a book entry or regime end out of range, or book and log differ in regime end",
         9 => {
@@ -37,6 +40,8 @@ pub fn refusal_words(number: i128) -> &'static str {
             "the plan's count is not 1 to 400, its step is 0, or its window is longer than its step"
         }
         18 => "a bad cell of a workbook",
+        19 => "start and cause are held already",
+        20 => "an overlap or a cause other than 1 on a day sheet",
         _ => "no such refusal",
     }
 }
@@ -62,15 +67,24 @@ fn log_words(numbers: &[i128]) -> Option<String> {
     let [count, regime_end, closed] = numbers.get(..3)? else { return None };
     let (end, closed) = (time_words(*regime_end), closed_words(*closed));
     let mut words = format!("{}, regime end {end}, {closed}", entries(*count));
-    for (slot, outage) in numbers[3..].chunks(3).enumerate() {
-        if let [start, end, mw] = outage {
-            if [*start, *end, *mw] != [0, 0, 0] {
+    for (slot, outage) in numbers[3..].chunks(4).enumerate() {
+        if let [start, end, mw, cause] = outage {
+            if [*start, *end, *mw, *cause] != [0, 0, 0, 0] {
                 let (start, end) = (time_words(*start), time_words(*end));
-                words += &format!("; slot {slot}: {start} to {end}, {mw} MW");
+                words += &format!("; slot {slot}: {start} to {end}, {mw} MW{}", by_cause(*cause));
             }
         }
     }
     Some(words)
+}
+
+/// A cause behind MW, where it is not 1.
+fn by_cause(cause: i128) -> String {
+    if cause == 1 {
+        String::new()
+    } else {
+        format!(", cause {cause}")
+    }
 }
 
 fn year_words(numbers: &[i128]) -> Option<String> {
@@ -109,9 +123,11 @@ fn book_words(numbers: &[i128]) -> Option<String> {
 
 /// A plan as it was read.
 fn plan_words(numbers: &[i128]) -> Option<String> {
-    let [start, length, step, count, mw] = numbers[..] else { return None };
-    let start = time_words(start);
-    Some(format!("from {start} on, {length} minutes every {step} days, {count} times, {mw} MW"))
+    let [start, length, step, count, mw, cause] = numbers[..] else { return None };
+    let (start, cause) = (time_words(start), by_cause(cause));
+    Some(format!(
+        "from {start} on, {length} minutes every {step} days, {count} times, {mw} MW{cause}"
+    ))
 }
 
 /// The bits of a float in words.
@@ -224,7 +240,7 @@ fn words_of_numbers(call: &Call, numbers: &[i128]) -> Option<String> {
         Call::ReadCells { .. } => format!(" at cell {}", figures.first()?),
         _ => String::new(),
     };
-    Some(format!("refused {number}{place}: {}", refusal_words(*number)))
+    Some(format!("refused {number}{place}: {}", refusal_words(call, *number)))
 }
 
 /// An answer line in readable form; one that does not fit the call as it is.
@@ -250,7 +266,11 @@ mod tests {
     #[test]
     fn readable_answers() {
         assert_eq!(words("enter 1 2 3", "0 3 99"), "accepted, 3 entries");
-        assert_eq!(words("enter 1 2 3", "4 3 99"), "refused 4: shares a minute with an entry");
+        let full = "refused 4: a minute would lose more than 1,000 MW";
+        assert_eq!(words("enter 1 2 3", "4 3 99"), full);
+        let held = "refused 19: start and cause are held already";
+        assert_eq!(words("enter 1 2 3 4", "19 3 99"), held);
+        assert_eq!(words("cancel 1 2", "6 3 99"), "refused 6: no entry has that start and cause");
         assert_eq!(
             words("minutes 2 0", "0 482400 1009440"),
             "2020-01-01 00:00 to 2021-01-01 00:00",
@@ -270,6 +290,10 @@ mod tests {
         assert_eq!(words("read-sheet 0 00", "0 0 1 99"), "accepted, 1 entry");
         let misfit = "refused 15 at place 26: a piece of a day sheet that does not fit";
         assert_eq!(words("read-sheet-kept 0", "15 26 0 99"), misfit);
+        let shared = "refused 4 at place 13: shares a minute with an entry";
+        assert_eq!(words("read-sheet 0 00", "4 13 0 99"), shared);
+        let overlap = "refused 20: an overlap or a cause other than 1 on a day sheet";
+        assert_eq!(words("write-sheet 4", "20 0 99"), overlap);
         assert_eq!(words("show-sheet 4", "0 2 20 21 253 252"), "2 bytes: 1415");
         assert_eq!(words("print-minute 0", "0 16 99"), "text of 16 bytes, sum 99");
     }
@@ -279,16 +303,20 @@ mod tests {
         let (list, enter) = ("list-plan 0 0 1 1 1 1", "enter-plan 0 1 1 1 1");
         assert_eq!(words(list, "0 0 27 99"), "lists 27 entries");
         assert_eq!(words(enter, "0 0 1 99"), "accepted, 1 entry");
-        let clash = "refused 4 at outage 3: shares a minute with an entry";
+        let clash = "refused 4 at outage 3: a minute would lose more than 1,000 MW";
         assert_eq!(words(enter, "4 3 1 99"), clash);
         assert!(words(list, "17 0 0 0").starts_with("refused 17: the plan's count is not 1 to 400"));
         assert_eq!(
-            words("read-plan 00", "0 0 1410 120 14 27 500"),
+            words("read-plan 00", "0 0 1410 120 14 27 500 1"),
             "from 2019-01-31 23:30 on, 120 minutes every 14 days, 27 times, 500 MW",
+        );
+        assert_eq!(
+            words("read-plan 00", "0 0 1410 120 14 27 500 2"),
+            "from 2019-01-31 23:30 on, 120 minutes every 14 days, 27 times, 500 MW, cause 2",
         );
         let malformed =
             "refused 13 at place 17: return, day sheet, plan or input of a workbook malformed";
-        assert_eq!(words("read-plan 00", "13 17 0 0 0 0 0"), malformed);
+        assert_eq!(words("read-plan 00", "13 17 0 0 0 0 0 0"), malformed);
         assert_eq!(words("write-plan 0 1 1 1 1 20", "0 17 99"), "17 bytes, buffer sum 99");
     }
 
@@ -331,14 +359,18 @@ mod tests {
         assert_eq!(words("set-closed 7", "0"), "done");
         assert_eq!(words("cancel 5", "16 2 99"), "refused 16: starts in closed time");
         assert!(words("close 7", "9 2 99").ends_with("a closing back or at no year end"));
-        let slots = " 5 6 7 0 0 0";
+        let slots = " 5 6 7 1 0 0 0 0";
         assert_eq!(
             words("show-log", &format!("1 13632480 482400{slots}")),
             "1 entry, regime end 2045-01-01 00:00, closed up to 2020-01-01 00:00; \
              slot 0: 2019-01-31 00:05 to 2019-01-31 00:06, 7 MW",
         );
-        let open = words("show-log", &format!("0 13632480 0{}", " 0".repeat(1_200)));
+        let open = words("show-log", &format!("0 13632480 0{}", " 0".repeat(1_600)));
         assert_eq!(open, "0 entries, regime end 2045-01-01 00:00, all open");
         assert_eq!(words("show-log", "0 13632480"), "0 13632480");
+        let causes = words("show-log", "2 13632480 0 5 6 7 2 0 0 0 9");
+        assert!(causes.ends_with(
+            "7 MW, cause 2; slot 1: 2019-01-31 00:00 to 2019-01-31 00:00, 0 MW, cause 9"
+        ));
     }
 }

@@ -424,7 +424,7 @@ pub fn figures(path: &str, command: &[String]) -> Outcome {
             println!("  program:  {}", shown(found));
             if let Some(number) = found.split(' ').next().and_then(|number| number.parse().ok()) {
                 if number != 0 && is_of_library(call.tag()) {
-                    println!("  refused {number}: {}", refusal_words(number));
+                    println!("  refused {number}: {}", refusal_words(call, number));
                 }
             }
         }

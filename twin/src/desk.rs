@@ -115,7 +115,7 @@ fn plan_answer(read: Result<Plan, usize>) -> String {
     let plan = read.unwrap_or_default();
     let (start, length) = (plan.start as i128, plan.length as i128);
     let (step, count, mw) = (plan.step as i128, plan.count as i128, plan.mw as i128);
-    row([number, place, start, length, step, count, mw])
+    row([number, place, start, length, step, count, mw, plan.cause as i128])
 }
 
 /// The answer of a workbook's period that is made: the bits of its floats.
@@ -150,7 +150,8 @@ fn text_answer(answer: Result<String, Refusal>) -> String {
 fn log_numbers(log: &Log) -> Vec<i128> {
     let mut numbers = vec![log.count as i128, log.regime_end as i128, log.closed as i128];
     for slot in &log.slots {
-        numbers.extend([slot.start as i128, slot.end as i128, slot.mw as i128]);
+        let (start, end) = (slot.start as i128, slot.end as i128);
+        numbers.extend([start, end, slot.mw as i128, slot.cause as i128]);
     }
     numbers
 }
@@ -245,12 +246,12 @@ impl Desk {
                 self.log = made.unwrap_or_else(|_| Log::fresh());
                 self.log_answer(number)
             }
-            Call::Enter { outage } => {
+            Call::Enter { outage, .. } => {
                 let number = number_of(self.log.enter(*outage));
                 self.log_answer(number)
             }
-            Call::Cancel { start } => {
-                let number = number_of(self.log.cancel(*start));
+            Call::Cancel { start, cause, .. } => {
+                let number = number_of(self.log.cancel(*start, *cause));
                 self.log_answer(number)
             }
             Call::Close { minute } => {
@@ -298,7 +299,7 @@ impl Desk {
                 written_sum(*room as usize, |buffer| sheet::write_into(&self.log, buffer))
             }
             Call::PrintMinute { minute } => text_answer(minute_text(*minute)),
-            Call::PrintOutage { outage } => text_answer(outage_text(outage)),
+            Call::PrintOutage { outage, .. } => text_answer(outage_text(outage)),
             Call::ShowLog => row(log_numbers(&self.log)),
             Call::ShowYear { k } => row(year_numbers(self.year(*k))),
             Call::ShowBook => row(book_numbers(&self.book)),
@@ -308,10 +309,10 @@ impl Desk {
             Call::ShowSheet { room } => {
                 written_bytes(*room, |buffer| sheet::write_into(&self.log, buffer))
             }
-            Call::ListPlan { regime_end, plan } => list_answer(plan::list(*regime_end, plan)),
-            Call::EnterPlan { plan } => self.enter_plan(plan),
+            Call::ListPlan { regime_end, plan, .. } => list_answer(plan::list(*regime_end, plan)),
+            Call::EnterPlan { plan, .. } => self.enter_plan(plan),
             Call::ReadPlan { bytes } => plan_answer(plan::read(bytes)),
-            Call::WritePlan { plan, room } => {
+            Call::WritePlan { plan, room, .. } => {
                 written_sum(*room as usize, |buffer| plan::write_into(plan, buffer))
             }
             Call::MakePeriod { first, last } => period_answer(WorkbookPeriod::make(*first, *last)),
@@ -335,7 +336,7 @@ impl Desk {
     /// Sets what stands to anything.
     fn set(&mut self, call: &Call) {
         match call {
-            Call::SetSlot { slot, outage } => self.log.slots[*slot as usize] = *outage,
+            Call::SetSlot { slot, outage, .. } => self.log.slots[*slot as usize] = *outage,
             Call::SetCount { count, regime_end } => {
                 self.log.count = *count;
                 self.log.regime_end = *regime_end;
@@ -395,9 +396,9 @@ mod tests {
 
     #[test]
     fn a_short_script() {
-        let outage = Slot { start: 10, end: 20, mw: 3 };
+        let outage = Slot { start: 10, end: 20, mw: 3, cause: 1 };
         let calls = [
-            Call::Enter { outage },
+            Call::enter(outage),
             Call::Lost { a: 0, b: 100 },
             Call::Growth { n: 100 },
             Call::Growth { n: 500 },
@@ -445,13 +446,13 @@ mod tests {
         log.closed = 482_400;
         let accepted = desk.carry_out(&Call::Close { minute: 482_400 });
         assert_eq!(accepted, format!("0 0 {}", log_sum(&log)));
-        assert!(desk.carry_out(&Call::ShowLog).starts_with("0 13632480 482400 0 0 0 "));
+        assert!(desk.carry_out(&Call::ShowLog).starts_with("0 13632480 482400 0 0 0 0 "));
         assert_eq!(desk.carry_out(&Call::SetClosed { minute: u32::MAX }), "0");
         assert_eq!(desk.log.closed, u32::MAX);
         desk.carry_out(&Call::YearLog { k: 4 });
         assert!(desk.carry_out(&Call::ShowYear { k: 4 }).contains(" 13632480 4294967295 "));
         desk.carry_out(&Call::ReadSheet { regime_end: 13_000_000, bytes: vec![] });
-        assert!(desk.carry_out(&Call::ShowLog).starts_with("0 13000000 0 0 0 0 "));
+        assert!(desk.carry_out(&Call::ShowLog).starts_with("0 13000000 0 0 0 0 0 "));
     }
 
     #[test]
@@ -503,30 +504,56 @@ mod tests {
     #[test]
     fn plans_are_listed_entered_read_and_written() {
         let mut desk = Desk::new();
-        let plan = Plan { start: 100, length: 50, step: 1, count: 2, mw: 7 };
-        let outages =
-            [Slot { start: 100, end: 150, mw: 7 }, Slot { start: 1_540, end: 1_590, mw: 7 }];
+        let plan = Plan { start: 100, length: 50, step: 1, count: 2, mw: 7, cause: 1 };
+        let outages = [
+            Slot { start: 100, end: 150, mw: 7, cause: 1 },
+            Slot { start: 1_540, end: 1_590, mw: 7, cause: 1 },
+        ];
         let mut log = Log::fresh();
         log.hold(&outages);
-        let listed = desk.carry_out(&Call::ListPlan { regime_end: 13_000_000, plan });
+        let listed = desk.carry_out(&Call::list_plan(13_000_000, plan));
         assert_eq!(listed, format!("0 0 2 {}", slot_sum(&slotted(&outages))));
         let past = Plan { step: 65_535, ..plan };
-        let failed = desk.carry_out(&Call::ListPlan { regime_end: 13_000_000, plan: past });
+        let failed = desk.carry_out(&Call::list_plan(13_000_000, past));
         assert_eq!(failed, "2 2 0 0");
-        assert_eq!(desk.carry_out(&Call::ListPlan { regime_end: 0, plan: past }), "8 0 0 0");
-        let entered = desk.carry_out(&Call::EnterPlan { plan });
+        assert_eq!(desk.carry_out(&Call::list_plan(0, past)), "8 0 0 0");
+        let entered = desk.carry_out(&Call::enter_plan(plan));
         assert_eq!(entered, format!("0 0 2 {}", log_sum(&log)));
-        for (refused, numbers) in [(plan, "4 1"), (past, "4 1"), (Plan::default(), "17 0")] {
-            let answer = desk.carry_out(&Call::EnterPlan { plan: refused });
+        let full = Plan { start: 101, mw: 994, ..plan };
+        for (refused, numbers) in
+            [(plan, "19 1"), (past, "19 1"), (full, "4 1"), (Plan::default(), "17 0")]
+        {
+            let answer = desk.carry_out(&Call::enter_plan(refused));
             assert_eq!(answer, format!("{numbers} 2 {}", log_sum(&log)));
         }
         let bytes = plan.bytes();
         let sum = byte_sum(&bytes);
-        assert_eq!(desk.carry_out(&Call::WritePlan { plan, room: 17 }), format!("0 17 {sum}"));
-        assert!(desk.carry_out(&Call::WritePlan { plan, room: 16 }).starts_with("14 0 "));
+        assert_eq!(desk.carry_out(&Call::write_plan(plan, 17)), format!("0 17 {sum}"));
+        assert!(desk.carry_out(&Call::write_plan(plan, 16)).starts_with("14 0 "));
         let more = [&bytes[..], &[0]].concat();
-        assert_eq!(desk.carry_out(&Call::ReadPlan { bytes }), "0 0 100 50 1 2 7");
-        assert_eq!(desk.carry_out(&Call::ReadPlan { bytes: more }), "13 17 0 0 0 0 0");
+        assert_eq!(desk.carry_out(&Call::ReadPlan { bytes }), "0 0 100 50 1 2 7 1");
+        assert_eq!(desk.carry_out(&Call::ReadPlan { bytes: more }), "13 17 0 0 0 0 0 0");
+        let bytes = Plan { cause: 9, ..plan }.bytes();
+        assert_eq!(desk.carry_out(&Call::ReadPlan { bytes }), "0 0 100 50 1 2 7 9");
+    }
+
+    #[test]
+    fn entries_with_causes_are_entered_cancelled_and_shown() {
+        let mut desk = Desk::new();
+        let outage = |cause| Slot { start: 5, end: 9, mw: 500, cause };
+        for (cause, number) in [(2, "0 1 "), (1, "0 2 "), (2, "19 2 "), (3, "4 2 "), (0, "3 2 ")] {
+            assert!(desk.carry_out(&Call::enter(outage(cause))).starts_with(number));
+        }
+        let shown = desk.carry_out(&Call::ShowLog);
+        assert!(shown.starts_with("2 13632480 0 5 9 500 1 5 9 500 2 0 0 0 0 "));
+        assert_eq!(shown.split(' ').count(), 3 + 4 * 400);
+        assert!(desk.carry_out(&Call::WriteSheet { room: 0 }).starts_with("20 0 "));
+        assert!(desk.carry_out(&Call::cancel(5, 3)).starts_with("6 2 "));
+        assert!(desk.carry_out(&Call::cancel(5, 1)).starts_with("0 1 "));
+        assert!(desk.carry_out(&Call::WriteSheet { room: 0 }).starts_with("20 0 "));
+        let line = "2019-01-31 00:05 2019-01-31 00:09 500 2\n";
+        let printed = desk.carry_out(&Call::print_outage(outage(2)));
+        assert_eq!(printed, format!("0 {} {}", line.len(), byte_sum(line.as_bytes())));
     }
 
     /// The bits of 61, 62 and their median: 2^5 times 1 + 29/32, 30/32 and 59/64.

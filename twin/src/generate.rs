@@ -6,6 +6,7 @@ mod closings;
 mod fillings;
 mod levels;
 mod logs;
+mod overlaps;
 mod plans;
 mod random;
 mod records;
@@ -46,7 +47,7 @@ impl Generator {
     }
 
     pub fn next_block(&mut self) -> Block {
-        match self.random.below(37) {
+        match self.random.below(41) {
             0..=3 => self.block("log", Generator::log_work),
             4 | 5 => self.block("full log", Generator::full_log_work),
             6 | 7 => self.block("broken log", Generator::broken_log_work),
@@ -62,6 +63,7 @@ impl Generator {
             29..=31 => self.plan_block(),
             32..=34 => self.workbook_block(),
             35 => self.block("levels", Generator::level_work),
+            36..=39 => self.block("overlaps", Generator::overlap_work),
             _ => self.block("anything", Generator::any_work),
         }
     }
@@ -129,7 +131,8 @@ impl Generator {
             4 => vec![17, 0, 2, 5, 1],
             5 => {
                 let slot = random.pick(&[400u16, 401, 65_535]).to_be_bytes();
-                [&[32, 0, 12][..], &slot, &[0; 10]].concat()
+                let rest = random.pick(&[10, 11]);
+                [&[32, 0, 2 + rest][..], &slot, &vec![0; rest as usize]].concat()
             }
             6 => [&[36, 0, 12, 0, random.pick(&[64, 255])][..], &[0; 10]].concat(),
             7 => {
@@ -159,7 +162,7 @@ impl Generator {
     fn wrong_length(&mut self) -> Vec<u8> {
         let mut block = self.block("anything", Generator::any_work);
         block.calls.retain(|(call, _)| ![17, 19, 20, 23, 40, 66, 73].contains(&call.tag()));
-        let (call, _) = self.random.pick(&block.calls);
+        let (mut call, _) = self.random.pick(&block.calls);
         let mut field = call.encode();
         if self.random.one_in(2) {
             let most = field.len() as u64 - 1;
@@ -167,7 +170,12 @@ impl Generator {
             return field;
         }
         let length = field.len() - 3;
-        let wrong = if length > 0 && self.random.one_in(2) { length - 1 } else { length + 1 };
+        // A cause that may be left out makes two lengths right.
+        let (least, most) = match call.spells() {
+            Some(spelled) => (length - *spelled as usize, length + !*spelled as usize),
+            None => (length, length),
+        };
+        let wrong = if least > 0 && self.random.one_in(2) { least - 1 } else { most + 1 };
         field[1..3].copy_from_slice(&(wrong as u16).to_be_bytes());
         field.resize(3 + wrong, 0);
         field.extend(Call::ShowBook.encode());
@@ -304,7 +312,7 @@ mod tests {
     fn every_refusal_is_frequent() {
         let expected: [(u8, &[&str]); 37] = [
             (1, &["0", "8"]),
-            (2, &["0", "1", "2", "3", "16", "4", "5"]),
+            (2, &["0", "1", "2", "3", "16", "19", "4", "5"]),
             (3, &["0", "1", "16", "6"]),
             (4, &["0", "1", "7"]),
             (5, &["0", "9"]),
@@ -326,12 +334,12 @@ mod tests {
             (22, &["0", "13", "14"]),
             (23, &["0", "8", "13", "15", "2", "3", "4", "5"]),
             (24, &["0", "8", "13", "15", "2", "3", "4", "5"]),
-            (25, &["0", "1", "14"]),
+            (25, &["0", "1", "20", "14"]),
             (26, &["0", "7"]),
             (27, &["0", "7"]),
             (28, &["0", "1", "9"]),
             (64, &["0", "8", "17", "2", "3"]),
-            (65, &["0", "1", "17", "2", "3", "16", "4", "5"]),
+            (65, &["0", "1", "17", "2", "3", "16", "19", "4", "5"]),
             (66, &["0", "13"]),
             (67, &["0", "14"]),
             (68, &["0", "12"]),

@@ -4,7 +4,7 @@ use std::io::{self, Read};
 
 use crate::model::assessment::Row;
 use crate::model::book::Book;
-use crate::model::log::{Slot, SLOTS};
+use crate::model::log::{Slot, SLOTS, USUAL_CAUSE};
 use crate::model::plan::Plan;
 use crate::model::settlement::Period;
 use crate::model::workbook::{Cell, AMOUNTS, CELLS};
@@ -80,12 +80,13 @@ impl CellBits {
 /// The most bytes that are kept, and that a call lends.
 pub const KEPT: usize = 262_144;
 
-/// A call; k is the place of a year, 0 to 4.
+/// A call; k is the place of a year, 0 to 4. Where a cause may be left out, it is
+/// spelled if the value has it all the same.
 #[derive(Clone, Debug, PartialEq, Eq)]
 pub enum Call {
     Empty { regime_end: u32 },
-    Enter { outage: Slot },
-    Cancel { start: u32 },
+    Enter { outage: Slot, spelled: bool },
+    Cancel { start: u32, cause: u8, spelled: bool },
     Lost { a: u32, b: u32 },
     Minutes { year: u8, regime_end: u32 },
     Availability { year: u8 },
@@ -109,9 +110,9 @@ pub enum Call {
     ReadSheetKept { regime_end: u32 },
     WriteSheet { room: u32 },
     PrintMinute { minute: u32 },
-    PrintOutage { outage: Slot },
+    PrintOutage { outage: Slot, spelled: bool },
     Close { minute: u32 },
-    SetSlot { slot: u16, outage: Slot },
+    SetSlot { slot: u16, outage: Slot, spelled: bool },
     SetCount { count: u64, regime_end: u32 },
     SetBook { book: Book },
     SetYear { k: u8, fields: YearFields },
@@ -127,10 +128,10 @@ pub enum Call {
     ShowBook,
     ShowWrite { k: u8, room: u16 },
     ShowSheet { room: u16 },
-    ListPlan { regime_end: u32, plan: Plan },
-    EnterPlan { plan: Plan },
+    ListPlan { regime_end: u32, plan: Plan, spelled: bool },
+    EnterPlan { plan: Plan, spelled: bool },
     ReadPlan { bytes: Vec<u8> },
-    WritePlan { plan: Plan, room: u32 },
+    WritePlan { plan: Plan, room: u32, spelled: bool },
     MakePeriod { first: u32, last: u32 },
     GapOfMedians { earlier: PeriodBits, later: PeriodBits },
     Export { amounts: [i64; AMOUNTS], period: PeriodBits },
@@ -139,7 +140,63 @@ pub enum Call {
     FillWorkbook { bytes: Vec<u8> },
 }
 
+/// The cause that a value of `set-slot` means where it has none: a slot of zeros
+/// is a zero slot.
+pub fn cause_of_slot(start: u32, end: u32, mw: u16) -> u8 {
+    if (start, end, mw) == (0, 0, 0) {
+        0
+    } else {
+        USUAL_CAUSE
+    }
+}
+
+/// Calls that leave their cause out where they may.
 impl Call {
+    pub fn enter(outage: Slot) -> Call {
+        Call::Enter { outage, spelled: outage.cause != USUAL_CAUSE }
+    }
+
+    pub fn cancel(start: u32, cause: u8) -> Call {
+        Call::Cancel { start, cause, spelled: cause != USUAL_CAUSE }
+    }
+
+    pub fn print_outage(outage: Slot) -> Call {
+        Call::PrintOutage { outage, spelled: outage.cause != USUAL_CAUSE }
+    }
+
+    pub fn set_slot(slot: u16, outage: Slot) -> Call {
+        let left_out = cause_of_slot(outage.start, outage.end, outage.mw);
+        Call::SetSlot { slot, outage, spelled: outage.cause != left_out }
+    }
+
+    pub fn list_plan(regime_end: u32, plan: Plan) -> Call {
+        Call::ListPlan { regime_end, plan, spelled: plan.cause != USUAL_CAUSE }
+    }
+
+    pub fn enter_plan(plan: Plan) -> Call {
+        Call::EnterPlan { plan, spelled: plan.cause != USUAL_CAUSE }
+    }
+
+    pub fn write_plan(plan: Plan, room: u32) -> Call {
+        Call::WritePlan { plan, room, spelled: plan.cause != USUAL_CAUSE }
+    }
+}
+
+impl Call {
+    /// Whether the call has a cause that is spelled; none where it has no cause.
+    pub fn spells(&mut self) -> Option<&mut bool> {
+        match self {
+            Call::Enter { spelled, .. }
+            | Call::Cancel { spelled, .. }
+            | Call::PrintOutage { spelled, .. }
+            | Call::SetSlot { spelled, .. }
+            | Call::ListPlan { spelled, .. }
+            | Call::EnterPlan { spelled, .. }
+            | Call::WritePlan { spelled, .. } => Some(spelled),
+            _ => None,
+        }
+    }
+
     pub fn tag(&self) -> u8 {
         match self {
             Call::Empty { .. } => 1,
@@ -214,8 +271,13 @@ impl Call {
             Call::Empty { regime_end } | Call::ReadSheetKept { regime_end } => {
                 value.u32(*regime_end)
             }
-            Call::Enter { outage } | Call::PrintOutage { outage } => value.outage(outage),
-            Call::Cancel { start } => value.u32(*start),
+            Call::Enter { outage, spelled } | Call::PrintOutage { outage, spelled } => {
+                value.outage(outage, *spelled)
+            }
+            Call::Cancel { start, cause, spelled } => {
+                value.u32(*start);
+                value.cause(*cause, *spelled);
+            }
             Call::Lost { a, b } => {
                 value.u32(*a);
                 value.u32(*b);
@@ -274,9 +336,9 @@ impl Call {
                 value.u32(*minute)
             }
             Call::ShowSheet { room } => value.u16(*room),
-            Call::SetSlot { slot, outage } => {
+            Call::SetSlot { slot, outage, spelled } => {
                 value.u16(*slot);
-                value.outage(outage);
+                value.outage(outage, *spelled);
             }
             Call::SetCount { count, regime_end } => {
                 value.u64(*count);
@@ -294,13 +356,13 @@ impl Call {
                 value.u8(line.currency);
                 value.i64(line.amount);
             }
-            Call::ListPlan { regime_end, plan } => {
+            Call::ListPlan { regime_end, plan, spelled } => {
                 value.u32(*regime_end);
-                value.plan(plan);
+                value.plan(plan, *spelled);
             }
-            Call::EnterPlan { plan } => value.plan(plan),
-            Call::WritePlan { plan, room } => {
-                value.plan(plan);
+            Call::EnterPlan { plan, spelled } => value.plan(plan, *spelled),
+            Call::WritePlan { plan, room, spelled } => {
+                value.plan(plan, *spelled);
                 value.u32(*room);
             }
             Call::MakePeriod { first, last } => {
@@ -328,8 +390,15 @@ impl Call {
         let mut part = Parts(value);
         let call = match tag {
             1 => Call::Empty { regime_end: part.u32()? },
-            2 => Call::Enter { outage: part.outage()? },
-            3 => Call::Cancel { start: part.u32()? },
+            2 => {
+                let (outage, spelled) = part.outage()?;
+                Call::Enter { outage, spelled }
+            }
+            3 => {
+                let start = part.u32()?;
+                let (cause, spelled) = part.cause(0, USUAL_CAUSE)?;
+                Call::Cancel { start, cause, spelled }
+            }
             4 => Call::Lost { a: part.u32()?, b: part.u32()? },
             5 => Call::Minutes { year: part.u8()?, regime_end: part.u32()? },
             6 => Call::Availability { year: part.u8()? },
@@ -368,14 +437,19 @@ impl Call {
             24 => Call::ReadSheetKept { regime_end: part.u32()? },
             25 => Call::WriteSheet { room: part.u32()? },
             26 => Call::PrintMinute { minute: part.u32()? },
-            27 => Call::PrintOutage { outage: part.outage()? },
+            27 => {
+                let (outage, spelled) = part.outage()?;
+                Call::PrintOutage { outage, spelled }
+            }
             28 => Call::Close { minute: part.u32()? },
             32 => {
                 let slot = part.u16()?;
                 if slot as usize >= SLOTS {
                     return None;
                 }
-                Call::SetSlot { slot, outage: part.outage()? }
+                let (start, end, mw) = part.span()?;
+                let (cause, spelled) = part.cause(0, cause_of_slot(start, end, mw))?;
+                Call::SetSlot { slot, outage: Slot { start, end, mw, cause }, spelled }
             }
             33 => Call::SetCount { count: part.u64()?, regime_end: part.u32()? },
             34 => Call::SetBook { book: part.book()? },
@@ -399,10 +473,20 @@ impl Call {
             50 => Call::ShowBook,
             51 => Call::ShowWrite { k: part.k()?, room: part.u16()? },
             52 => Call::ShowSheet { room: part.u16()? },
-            64 => Call::ListPlan { regime_end: part.u32()?, plan: part.plan()? },
-            65 => Call::EnterPlan { plan: part.plan()? },
+            64 => {
+                let regime_end = part.u32()?;
+                let (plan, spelled) = part.plan(0)?;
+                Call::ListPlan { regime_end, plan, spelled }
+            }
+            65 => {
+                let (plan, spelled) = part.plan(0)?;
+                Call::EnterPlan { plan, spelled }
+            }
             66 => Call::ReadPlan { bytes: part.rest() },
-            67 => Call::WritePlan { plan: part.plan()?, room: part.u32()? },
+            67 => {
+                let (plan, spelled) = part.plan(4)?;
+                Call::WritePlan { plan, room: part.u32()?, spelled }
+            }
             68 => Call::MakePeriod { first: part.u32()?, last: part.u32()? },
             69 => Call::GapOfMedians { earlier: part.floats()?, later: part.floats()? },
             70 => {
@@ -451,18 +535,27 @@ impl Value {
         self.0.extend(number.to_be_bytes());
     }
 
-    fn outage(&mut self, outage: &Slot) {
+    /// A cause where it is spelled.
+    fn cause(&mut self, cause: u8, spelled: bool) {
+        if spelled {
+            self.u8(cause);
+        }
+    }
+
+    fn outage(&mut self, outage: &Slot, spelled: bool) {
         self.u32(outage.start);
         self.u32(outage.end);
         self.u16(outage.mw);
+        self.cause(outage.cause, spelled);
     }
 
-    fn plan(&mut self, plan: &Plan) {
+    fn plan(&mut self, plan: &Plan, spelled: bool) {
         self.u32(plan.start);
         self.u32(plan.length);
         for number in [plan.step, plan.count, plan.mw] {
             self.u16(number);
         }
+        self.cause(plan.cause, spelled);
     }
 
     fn floats(&mut self, period: &PeriodBits) {
@@ -549,13 +642,32 @@ impl Parts<'_> {
         std::mem::take(&mut self.0).to_vec()
     }
 
-    fn outage(&mut self) -> Option<Slot> {
-        Some(Slot { start: self.u32()?, end: self.u32()?, mw: self.u16()? })
+    /// A cause, and whether it is spelled: it is where more bytes are left than
+    /// so many behind it.
+    fn cause(&mut self, behind: usize, left_out: u8) -> Option<(u8, bool)> {
+        if self.0.len() > behind {
+            Some((self.u8()?, true))
+        } else {
+            Some((left_out, false))
+        }
     }
 
-    fn plan(&mut self) -> Option<Plan> {
+    fn span(&mut self) -> Option<(u32, u32, u16)> {
+        Some((self.u32()?, self.u32()?, self.u16()?))
+    }
+
+    fn outage(&mut self) -> Option<(Slot, bool)> {
+        let (start, end, mw) = self.span()?;
+        let (cause, spelled) = self.cause(0, USUAL_CAUSE)?;
+        Some((Slot { start, end, mw, cause }, spelled))
+    }
+
+    /// A plan with so many bytes behind it.
+    fn plan(&mut self, behind: usize) -> Option<(Plan, bool)> {
         let (start, length) = (self.u32()?, self.u32()?);
-        Some(Plan { start, length, step: self.u16()?, count: self.u16()?, mw: self.u16()? })
+        let (step, count, mw) = (self.u16()?, self.u16()?, self.u16()?);
+        let (cause, spelled) = self.cause(behind, USUAL_CAUSE)?;
+        Some((Plan { start, length, step, count, mw, cause }, spelled))
     }
 
     fn floats(&mut self) -> Option<PeriodBits> {
@@ -680,25 +792,88 @@ mod tests {
         assert_eq!(Call::decode(28, &[0, 0, 1, 2]), Some(Call::Close { minute: 258 }));
         assert_eq!(Call::decode(42, &[0; 5]), None);
         assert_eq!(Call::decode(42, &[0, 0, 1, 2]), Some(Call::SetClosed { minute: 258 }));
-        assert_eq!(Call::decode(32, &[1, 144, 0, 0, 0, 0, 0, 0, 0, 0, 0, 0]), None);
-        assert!(Call::decode(32, &[1, 143, 0, 0, 0, 0, 0, 0, 0, 0, 0, 0]).is_some());
+        for length in [10, 11] {
+            let zeros = vec![0; length];
+            assert_eq!(Call::decode(32, &[&[1, 144][..], &zeros].concat()), None);
+            assert!(Call::decode(32, &[&[1, 143][..], &zeros].concat()).is_some());
+        }
         assert_eq!(Call::decode(36, &[0, 64, 0, 0, 0, 0, 0, 0, 0, 0, 0, 0]), None);
     }
 
     #[test]
+    fn fields_with_a_cause_or_without() {
+        let outage = Slot { start: 258, end: 259, mw: 3, cause: 1 };
+        let value = [0, 0, 1, 2, 0, 0, 1, 3, 0, 3];
+        let with = |cause: u8| [&value[..], &[cause]].concat();
+        for (tag, call) in [(2, Call::enter as fn(Slot) -> Call), (27, Call::print_outage)] {
+            assert_eq!(Call::decode(tag, &value), Some(call(outage)));
+            assert_eq!(call(outage).encode()[3..], value);
+            for cause in [0, 2, 255] {
+                let other = call(Slot { cause, ..outage });
+                assert_eq!(Call::decode(tag, &with(cause)), Some(other));
+            }
+            let mut spelled = call(outage);
+            *spelled.spells().unwrap() = true;
+            assert_eq!(spelled.encode()[3..], with(1));
+            assert_eq!(Call::decode(tag, &with(1)), Some(spelled));
+            assert_eq!(Call::decode(tag, &value[1..]), None);
+            assert_eq!(Call::decode(tag, &[&with(2)[..], &[0]].concat()), None);
+        }
+        assert_eq!(Call::decode(3, &[0, 0, 1, 2]), Some(Call::cancel(258, 1)));
+        assert_eq!(Call::decode(3, &[0, 0, 1, 2, 0]), Some(Call::cancel(258, 0)));
+        assert_eq!(Call::decode(3, &[0, 0, 1, 2, 9]), Some(Call::cancel(258, 9)));
+        assert_eq!(Call::decode(3, &[0, 0, 1]), None);
+        assert_eq!(Call::decode(3, &[0, 0, 1, 2, 9, 0]), None);
+    }
+
+    #[test]
+    fn a_slot_of_zeros_is_a_zero_slot() {
+        let zeros = [0; 13];
+        let zero = Call::set_slot(0, Slot::default());
+        assert_eq!(Call::decode(32, &zeros[..12]), Some(zero.clone()));
+        assert_eq!(zero.encode()[3..], zeros[..12]);
+        let spelled = Call::SetSlot { slot: 0, outage: Slot::default(), spelled: true };
+        assert_eq!(Call::decode(32, &zeros), Some(spelled));
+        let mut with_cause = zeros;
+        with_cause[12] = 1;
+        let outage = Slot { cause: 1, ..Slot::default() };
+        assert_eq!(Call::decode(32, &with_cause), Some(Call::set_slot(0, outage)));
+        for place in [2, 6, 10] {
+            let mut value = zeros;
+            value[place] = 1;
+            let Some(Call::SetSlot { outage, spelled, .. }) = Call::decode(32, &value[..12]) else {
+                panic!()
+            };
+            assert_eq!((outage.cause, spelled), (1, false));
+        }
+        assert_eq!(Call::decode(32, &zeros[..11]), None);
+        assert_eq!(Call::decode(32, &[0; 14]), None);
+    }
+
+    #[test]
     fn fields_of_plans() {
-        let plan = Plan { start: 0x0102_0304, length: 5, step: 6, count: 7, mw: 0x0809 };
+        let plan = Plan { start: 0x0102_0304, length: 5, step: 6, count: 7, mw: 0x0809, cause: 1 };
         let value = [1, 2, 3, 4, 0, 0, 0, 5, 0, 6, 0, 7, 8, 9];
         let with = |before: &[u8], after: &[u8]| [before, &value, after].concat();
-        assert_eq!(Call::decode(65, &value), Some(Call::EnterPlan { plan }));
+        let by = |cause| Plan { cause, ..plan };
+        assert_eq!(Call::decode(65, &value), Some(Call::enter_plan(plan)));
         assert_eq!(Call::decode(65, &value[1..]), None);
-        assert_eq!(Call::decode(65, &with(&[], &[0])), None);
-        let listed = Call::ListPlan { regime_end: 258, plan };
+        assert_eq!(Call::decode(65, &with(&[], &[0])), Some(Call::enter_plan(by(0))));
+        let spelled = Call::EnterPlan { plan, spelled: true };
+        assert_eq!(Call::decode(65, &with(&[], &[1])), Some(spelled));
+        assert_eq!(Call::decode(65, &with(&[], &[2, 0])), None);
+        let listed = Call::list_plan(258, plan);
         assert_eq!(Call::decode(64, &with(&[0, 0, 1, 2], &[])), Some(listed));
+        let listed = Call::list_plan(258, by(7));
+        assert_eq!(Call::decode(64, &with(&[0, 0, 1, 2], &[7])), Some(listed));
         assert_eq!(Call::decode(64, &with(&[0, 0, 1], &[])), None);
-        let written = Call::WritePlan { plan, room: 258 };
+        assert_eq!(Call::decode(64, &with(&[0, 0, 1, 2], &[7, 7])), None);
+        let written = Call::write_plan(plan, 258);
         assert_eq!(Call::decode(67, &with(&[], &[0, 0, 1, 2])), Some(written));
+        let written = Call::write_plan(by(7), 258);
+        assert_eq!(Call::decode(67, &with(&[], &[7, 0, 0, 1, 2])), Some(written));
         assert_eq!(Call::decode(67, &with(&[], &[0, 0])), None);
+        assert_eq!(Call::decode(67, &with(&[], &[7, 0, 0, 1, 2, 0])), None);
         for bytes in [vec![], vec![30], vec![0; 8_193]] {
             assert_eq!(Call::decode(66, &bytes), Some(Call::ReadPlan { bytes }));
         }

@@ -5,13 +5,13 @@ use crate::model::assessment::Row;
 use crate::model::book::Book;
 use crate::model::calendar::{day_number, minute_of_date};
 use crate::model::dates::minute_text;
-use crate::model::log::{Slot, SLOTS};
+use crate::model::log::{Slot, SLOTS, USUAL_CAUSE};
 use crate::model::plan::Plan;
 use crate::model::settlement::Period;
 use crate::model::sheet::{joined, Piece};
 use crate::model::workbook::{AMOUNTS, CELLS};
 use crate::model::year::{Line, LINES};
-use crate::script::{Call, CellBits, PeriodBits, YearFields, KEPT};
+use crate::script::{cause_of_slot, Call, CellBits, PeriodBits, YearFields, KEPT};
 
 /// The word for a tag.
 pub fn word(tag: u8) -> &'static str {
@@ -180,20 +180,37 @@ impl<'a> Words<'a> {
         }
     }
 
-    fn outage(&mut self) -> Result<Slot, String> {
-        Ok(Slot {
-            start: self.minute("the start")?,
-            end: self.minute("the end")?,
-            mw: self.number("the MW")?,
-        })
+    /// A start, an end and MW.
+    fn span(&mut self) -> Result<(u32, u32, u16), String> {
+        let (start, end) = (self.minute("the start")?, self.minute("the end")?);
+        Ok((start, end, self.number("the MW")?))
     }
 
-    fn plan(&mut self) -> Result<Plan, String> {
+    /// A cause, and whether it is there: it is where more words are left than so
+    /// many behind it.
+    fn cause(&mut self, behind: usize, left_out: u8) -> Result<(u8, bool), String> {
+        if self.left.clone().count() > behind {
+            Ok((self.number("the cause")?, true))
+        } else {
+            Ok((left_out, false))
+        }
+    }
+
+    fn outage(&mut self) -> Result<(Slot, bool), String> {
+        let (start, end, mw) = self.span()?;
+        let (cause, spelled) = self.cause(0, USUAL_CAUSE)?;
+        Ok((Slot { start, end, mw, cause }, spelled))
+    }
+
+    /// A plan with so many words behind it.
+    fn plan(&mut self, behind: usize) -> Result<(Plan, bool), String> {
         let start = self.minute("the first start")?;
         let length = self.number("the length")?;
         let step = self.number("the step")?;
         let count = self.number("how many")?;
-        Ok(Plan { start, length, step, count, mw: self.number("the MW")? })
+        let mw = self.number("the MW")?;
+        let (cause, spelled) = self.cause(behind, USUAL_CAUSE)?;
+        Ok((Plan { start, length, step, count, mw, cause }, spelled))
     }
 
     fn row(&mut self) -> Result<Row, String> {
@@ -257,10 +274,13 @@ impl<'a> Words<'a> {
 
     /// A piece of a day sheet.
     fn piece(&mut self) -> Result<Piece, String> {
-        Ok(Piece { continued: self.continued()?, part: self.outage()? })
+        let continued = self.continued()?;
+        let (start, end, mw) = self.span()?;
+        Ok(Piece { continued, part: Slot { start, end, mw, cause: USUAL_CAUSE } })
     }
 
-    /// `COUNT START STEP LENGTH MW`: so many outages, a step of minutes apart.
+    /// `COUNT START STEP LENGTH MW`: so many outages of the usual cause, a step
+    /// of minutes apart.
     fn outages(&mut self) -> Result<Vec<Slot>, String> {
         let count: u32 = self.number("how many")?;
         let start = self.minute("the first start")?;
@@ -269,7 +289,7 @@ impl<'a> Words<'a> {
         let mw: u16 = self.number("the MW")?;
         let outage = |place: u32| {
             let start = start.checked_add(place.checked_mul(step)?)?;
-            Some(Slot { start, end: start.checked_add(length)?, mw })
+            Some(Slot { start, end: start.checked_add(length)?, mw, cause: USUAL_CAUSE })
         };
         (0..count)
             .map(|place| outage(place).ok_or_else(|| "the minutes do not fit".to_string()))
@@ -315,9 +335,12 @@ pub fn parse_line(line: &str) -> Result<Vec<Call>, String> {
     }
 }
 
-/// `fill COUNT START STEP LENGTH MW`: so many outages entered.
+/// `fill COUNT START STEP LENGTH MW [CAUSE]`: so many outages entered.
 fn filling(words: &mut Words) -> Result<Vec<Call>, String> {
-    Ok(words.outages()?.into_iter().map(|outage| Call::Enter { outage }).collect())
+    let outages = words.outages()?;
+    let (cause, spelled) = words.cause(0, USUAL_CAUSE)?;
+    let by_cause = outages.into_iter().map(|outage| Slot { cause, ..outage });
+    Ok(by_cause.map(|outage| Call::Enter { outage, spelled }).collect())
 }
 
 /// `fill-pieces KIND COUNT START STEP LENGTH MW`: so many pieces of a day sheet
@@ -359,8 +382,15 @@ fn parse_call(words: &mut Words) -> Result<Call, String> {
     let year = "the year's number";
     Ok(match words.next("the call")? {
         "empty" => Call::Empty { regime_end: words.minute("the regime end")? },
-        "enter" => Call::Enter { outage: words.outage()? },
-        "cancel" => Call::Cancel { start: words.minute("the start")? },
+        "enter" => {
+            let (outage, spelled) = words.outage()?;
+            Call::Enter { outage, spelled }
+        }
+        "cancel" => {
+            let start = words.minute("the start")?;
+            let (cause, spelled) = words.cause(0, USUAL_CAUSE)?;
+            Call::Cancel { start, cause, spelled }
+        }
         "lost" => Call::Lost { a: words.minute("the first minute")?, b: words.minute("the end")? },
         "minutes" => {
             Call::Minutes { year: words.number(year)?, regime_end: words.minute("the regime end")? }
@@ -403,14 +433,19 @@ fn parse_call(words: &mut Words) -> Result<Call, String> {
         "read-sheet-kept" => Call::ReadSheetKept { regime_end: words.minute("the regime end")? },
         "write-sheet" => Call::WriteSheet { room: words.number("the room")? },
         "print-minute" => Call::PrintMinute { minute: words.minute("the minute")? },
-        "print-outage" => Call::PrintOutage { outage: words.outage()? },
+        "print-outage" => {
+            let (outage, spelled) = words.outage()?;
+            Call::PrintOutage { outage, spelled }
+        }
         "close" => Call::Close { minute: words.minute("the minute")? },
         "set-slot" => {
             let slot = words.number("the slot")?;
             if slot as usize >= SLOTS {
                 return Err("the slot is not 0 to 399".to_string());
             }
-            Call::SetSlot { slot, outage: words.outage()? }
+            let (start, end, mw) = words.span()?;
+            let (cause, spelled) = words.cause(0, cause_of_slot(start, end, mw))?;
+            Call::SetSlot { slot, outage: Slot { start, end, mw, cause }, spelled }
         }
         "set-count" => Call::SetCount {
             count: words.number("the count")?,
@@ -467,11 +502,19 @@ fn parse_call(words: &mut Words) -> Result<Call, String> {
         "show-write" => Call::ShowWrite { k: words.k()?, room: words.number("the room")? },
         "show-sheet" => Call::ShowSheet { room: words.number("the room")? },
         "list-plan" => {
-            Call::ListPlan { regime_end: words.minute("the regime end")?, plan: words.plan()? }
+            let regime_end = words.minute("the regime end")?;
+            let (plan, spelled) = words.plan(0)?;
+            Call::ListPlan { regime_end, plan, spelled }
         }
-        "enter-plan" => Call::EnterPlan { plan: words.plan()? },
+        "enter-plan" => {
+            let (plan, spelled) = words.plan(0)?;
+            Call::EnterPlan { plan, spelled }
+        }
         "read-plan" => Call::ReadPlan { bytes: words.bytes()? },
-        "write-plan" => Call::WritePlan { plan: words.plan()?, room: words.number("the room")? },
+        "write-plan" => {
+            let (plan, spelled) = words.plan(1)?;
+            Call::WritePlan { plan, room: words.number("the room")?, spelled }
+        }
         "make-period" => {
             let Period { first, last } = words.period()?;
             Call::MakePeriod { first, last }
@@ -485,14 +528,24 @@ fn parse_call(words: &mut Words) -> Result<Call, String> {
     })
 }
 
-fn outage_words(outage: &Slot) -> String {
-    let (start, end) = (time_words(outage.start as i128), time_words(outage.end as i128));
-    format!("{start} {end} {}", outage.mw)
+/// A cause behind the numbers before it, where it is spelled.
+fn with_cause(words: String, cause: u8, spelled: bool) -> String {
+    if spelled {
+        format!("{words} {cause}")
+    } else {
+        words
+    }
 }
 
-fn plan_words(plan: &Plan) -> String {
+fn outage_words(outage: &Slot, spelled: bool) -> String {
+    let (start, end) = (time_words(outage.start as i128), time_words(outage.end as i128));
+    with_cause(format!("{start} {end} {}", outage.mw), outage.cause, spelled)
+}
+
+fn plan_words(plan: &Plan, spelled: bool) -> String {
     let start = time_words(plan.start as i128);
-    format!("{start} {} {} {} {}", plan.length, plan.step, plan.count, plan.mw)
+    let words = format!("{start} {} {} {} {}", plan.length, plan.step, plan.count, plan.mw);
+    with_cause(words, plan.cause, spelled)
 }
 
 fn floats_words(period: &PeriodBits) -> String {
@@ -508,8 +561,10 @@ pub fn call_words(call: &Call) -> String {
     let time = |minute: &u32| time_words(*minute as i128);
     let rest = match call {
         Call::Empty { regime_end } | Call::ReadSheetKept { regime_end } => time(regime_end),
-        Call::Enter { outage } | Call::PrintOutage { outage } => outage_words(outage),
-        Call::Cancel { start } => time(start),
+        Call::Enter { outage, spelled } | Call::PrintOutage { outage, spelled } => {
+            outage_words(outage, *spelled)
+        }
+        Call::Cancel { start, cause, spelled } => with_cause(time(start), *cause, *spelled),
         Call::Lost { a, b } => format!("{} {}", time(a), time(b)),
         Call::Minutes { year, regime_end } => format!("{year} {}", time(regime_end)),
         Call::Availability { year } | Call::Target { year } => year.to_string(),
@@ -549,7 +604,9 @@ pub fn call_words(call: &Call) -> String {
             time(minute)
         }
         Call::ShowSheet { room } => room.to_string(),
-        Call::SetSlot { slot, outage } => format!("{slot} {}", outage_words(outage)),
+        Call::SetSlot { slot, outage, spelled } => {
+            format!("{slot} {}", outage_words(outage, *spelled))
+        }
         Call::SetCount { count, regime_end } => format!("{count} {}", time(regime_end)),
         Call::SetBook { book: b } => format!(
             "{} {} {} {} {} {} {} {} {} {}",
@@ -571,11 +628,13 @@ pub fn call_words(call: &Call) -> String {
         Call::SetLine { k, slot, line } => {
             format!("{k} {slot} {} {} {}", line.kind, line.currency, line.amount)
         }
-        Call::ListPlan { regime_end, plan } => {
-            format!("{} {}", time(regime_end), plan_words(plan))
+        Call::ListPlan { regime_end, plan, spelled } => {
+            format!("{} {}", time(regime_end), plan_words(plan, *spelled))
         }
-        Call::EnterPlan { plan } => plan_words(plan),
-        Call::WritePlan { plan, room } => format!("{} {room}", plan_words(plan)),
+        Call::EnterPlan { plan, spelled } => plan_words(plan, *spelled),
+        Call::WritePlan { plan, room, spelled } => {
+            format!("{} {room}", plan_words(plan, *spelled))
+        }
         Call::MakePeriod { first, last } => format!("{first} {last}"),
         Call::GapOfMedians { earlier, later } => {
             format!("{}  {}", floats_words(earlier), floats_words(later))
@@ -641,18 +700,53 @@ mod tests {
     }
 
     #[test]
+    fn causes_in_words() {
+        let outage = |cause| Slot { start: 1, end: 2, mw: 3, cause };
+        assert_eq!(parse_line("enter 1 2 3"), Ok(vec![Call::enter(outage(1))]));
+        assert_eq!(parse_line("enter 1 2 3 0"), Ok(vec![Call::enter(outage(0))]));
+        assert_eq!(parse_line("print-outage 1 2 3 255"), Ok(vec![Call::print_outage(outage(255))]));
+        let spelled = Call::Enter { outage: outage(1), spelled: true };
+        assert_eq!(call_words(&spelled), "enter 2019-01-31 00:01 2019-01-31 00:02 3 1");
+        assert_eq!(parse_line("enter 1 2 3 1"), Ok(vec![spelled]));
+        assert_eq!(parse_line("cancel 5"), Ok(vec![Call::cancel(5, 1)]));
+        assert_eq!(parse_line("cancel 2019-01-31 00:05 9"), Ok(vec![Call::cancel(5, 9)]));
+        assert_eq!(call_words(&Call::cancel(5, 9)), "cancel 2019-01-31 00:05 9");
+        let zeros = parse_line("set-slot 0 0 0 0");
+        assert_eq!(zeros, Ok(vec![Call::set_slot(0, Slot::default())]));
+        let held = Slot { cause: 2, ..Slot::default() };
+        assert_eq!(parse_line("set-slot 0 0 0 0 2"), Ok(vec![Call::set_slot(0, held)]));
+        assert_eq!(parse_line("set-slot 9 1 2 3"), Ok(vec![Call::set_slot(9, outage(1))]));
+        assert_eq!(
+            parse_line("fill 2 1 10 1 3 7"),
+            Ok(vec![
+                Call::enter(outage(7)),
+                Call::enter(Slot { start: 11, end: 12, mw: 3, cause: 7 }),
+            ]),
+        );
+    }
+
+    #[test]
     fn plans_in_words() {
-        let plan = Plan { start: 1_410, length: 120, step: 14, count: 27, mw: 500 };
+        let plan = Plan { start: 1_410, length: 120, step: 14, count: 27, mw: 500, cause: 1 };
         let dated = "2019-01-31 23:30 120 14 27 500";
-        for words in [dated, "1410 120 14 27 500"] {
+        let by = |cause| Plan { cause, ..plan };
+        for (words, plan) in [
+            (dated.to_string(), plan),
+            ("1410 120 14 27 500".to_string(), plan),
+            (format!("{dated} 7"), by(7)),
+            (format!("{dated} 0"), by(0)),
+        ] {
             let entered = parse_line(&format!("enter-plan {words}"));
-            assert_eq!(entered, Ok(vec![Call::EnterPlan { plan }]));
+            assert_eq!(entered, Ok(vec![Call::enter_plan(plan)]));
             let listed = parse_line(&format!("list-plan 2045-01-01 00:00 {words}"));
-            assert_eq!(listed, Ok(vec![Call::ListPlan { regime_end: 13_632_480, plan }]));
+            assert_eq!(listed, Ok(vec![Call::list_plan(13_632_480, plan)]));
             let written = parse_line(&format!("write-plan {words} 17"));
-            assert_eq!(written, Ok(vec![Call::WritePlan { plan, room: 17 }]));
+            assert_eq!(written, Ok(vec![Call::write_plan(plan, 17)]));
         }
-        assert_eq!(call_words(&Call::EnterPlan { plan }), format!("enter-plan {dated}"));
+        assert_eq!(call_words(&Call::enter_plan(plan)), format!("enter-plan {dated}"));
+        assert_eq!(call_words(&Call::write_plan(by(7), 18)), format!("write-plan {dated} 7 18"));
+        let spelled = parse_line(&format!("enter-plan {dated} 1"));
+        assert_eq!(spelled, Ok(vec![Call::EnterPlan { plan, spelled: true }]));
         let bytes = vec![30, 0, 14];
         assert_eq!(parse_line("read-plan 1e000e"), Ok(vec![Call::ReadPlan { bytes }]));
         assert_eq!(parse_line("read-plan"), Ok(vec![Call::ReadPlan { bytes: vec![] }]));
@@ -701,7 +795,15 @@ mod tests {
         for line in [
             "entre 1 2 3",
             "enter 1 2",
-            "enter 1 2 3 4",
+            "enter 1 2 3 4 5",
+            "enter 1 2 3 256",
+            "enter 1 2 3 -1",
+            "cancel 1 2 3",
+            "cancel 1 256",
+            "print-outage 1 2 3 256",
+            "fill 2 0 10 5 1 1 1",
+            "keep-piece fresh 0 1 1 1",
+            "fill-pieces fresh 2 0 10 5 1 1",
             "enter 2019-01-30 23:30 5 3",
             "enter 2019-02-29 23:30 5 3",
             "enter 2019-02-28 24:00 5 3",
@@ -717,16 +819,20 @@ mod tests {
             "fill-pieces fresh 2 4294967295 1 1 1",
             "read-sheet 0 123",
             "set-slot 400 1 2 3",
+            "set-slot 399 1 2 3 4 5",
             "set-line 0 64 1 0 5",
             "set-year 0 1 1 1 1 1 1 2 0 0",
             "gap 1900-02-28 61 61 61",
             "enter-plan 0 1 1 1",
-            "enter-plan 0 1 1 1 1 1",
+            "enter-plan 0 1 1 1 1 1 1",
+            "enter-plan 0 1 1 1 1 256",
             "enter-plan 0 1 65536 1 1",
             "list-plan 0 1 1 1 1",
             "read-plan 123",
             "write-plan 0 1 1 1 1",
             "write-plan 0 1 1 1 1 4294967296",
+            "write-plan 0 1 1 1 1 256 1",
+            "write-plan 0 1 1 1 1 1 1 1",
             "make-period 61",
             "make-period 61 61.5",
             "make-period 1900-02-28 61",

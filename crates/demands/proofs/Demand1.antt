@@ -10,7 +10,7 @@ use lib.ListN.{length, drop, replicate}
 use Rattle.lists.specs.Lists.{padded}
 use Rattle.lists.proofs.Tests.{not-no}
 use Rattle.refusals.specs.declared.Refusal.{Refusal}
-use Rattle.refusals.specs.declared.Refusal.the-variants.{BrokenLog, BadSpan, BadPower, SharedMinute, FullLog, NoSuchStart, BadStretch, BadBook, BadYear, FloorAboveCap, TooLarge, BadPeriod, Malformed, NoRoom, BadPiece, ClosedTime, BadPlan, BadCell}
+use Rattle.refusals.specs.declared.Refusal.the-variants.{BrokenLog, BadSpan, BadPower, Clash, FullLog, NoSuchEntry, BadStretch, BadBook, BadYear, FloorAboveCap, TooLarge, BadPeriod, Malformed, NoRoom, BadPiece, ClosedTime, BadPlan, BadCell, HeldAlready, NotOnSheet}
 use Rattle.refusals.specs.Refusals.{firstApplicable, refusalNumber, answerNumber, writtenNumber, lengthFigure}
 use Rattle.refusals.proofs.Laws.{same-refusal, all-clear, beside-accepted, beside-refused}
 use Rattle.calendar.specs.Years.{yearStart, yearEnd, minutesRows, minutesNumber, firstFigure, endFigure}
@@ -76,13 +76,13 @@ use Rattle.demands.specs.Demand1.{Demand1}
 use Rattle.demands.proofs.Workbooks.{export-nine, export-twelve, cells-bad, cells-first, input-refused, fill-empty}
 use Rattle.demands.proofs.Sheets.{clear-whole}
 
-numbers : (why : Refusal) → (1 ≤ refusalNumber why) × (refusalNumber why ≤ 18)
+numbers : (why : Refusal) → (1 ≤ refusalNumber why) × (refusalNumber why ≤ 20)
 numbers BrokenLog = omega arith
 numbers BadSpan = omega arith
 numbers BadPower = omega arith
-numbers SharedMinute = omega arith
+numbers Clash = omega arith
 numbers FullLog = omega arith
-numbers NoSuchStart = omega arith
+numbers NoSuchEntry = omega arith
 numbers BadStretch = omega arith
 numbers BadBook = omega arith
 numbers BadYear = omega arith
@@ -95,6 +95,8 @@ numbers BadPiece = omega arith
 numbers ClosedTime = omega arith
 numbers BadPlan = omega arith
 numbers BadCell = omega arith
+numbers HeldAlready = omega arith
+numbers NotOnSheet = omega arith
 
 -- ---- a message, by what was found
 module _ {M : Type 0} (none : M) where

@@ -12,7 +12,7 @@ use Rattle.refusals.proofs.Laws.{all-clear}
 use Rattle.calendar.specs.declared.YearMinutes.{YearMinutes}
 use Rattle.calendar.specs.Years.{goodYearNumber, minutesRows, minutesNumber, firstFigure, endFigure, MinutesGives}
 use Rattle.entries.specs.declared.Entry.{Entry}
-use Rattle.entries.specs.Row.{sameEntry, covers, lostIn}
+use Rattle.entries.specs.Row.{sameEntry, lostBy, lostIn}
 use Rattle.outage.specs.declared.Log.{Log}
 use Rattle.outage.specs.declared.Logged.{Logged}
 use Rattle.outage.specs.declared.losing.LostEnergy.{LostEnergy}
@@ -20,12 +20,12 @@ use Rattle.outage.specs.declared.losing.LostEnergy.the-variants.{MwMinutes}
 use Rattle.outage.specs.Log.{mostMw, validLog, logEntries, lostEnergy}
 use Rattle.outage.specs.Calls.{EmptyGives, lostFigure, LostGives}
 use Rattle.outage.proofs.LogHolding.{log-entries-length}
-use Rattle.entries.proofs.Minutes.{shares-says, shares-made}
+use Rattle.entries.proofs.Keeping.{room-says, room-made}
 use Rattle.demands.specs.Log.{Turn, RanFrom, logAfter, acceptedNotCancelled, lastClosing}
 use Rattle.demands.specs.Demand3.{Demand3}
 use Rattle.demands.proofs.Lost.{by-minutes, parts-add, year-lost, year-most}
 use Rattle.demands.proofs.NotCancelled.{run-agrees}
-use Rattle.demands.proofs.Slots.{in-order, none-shared, free-zero}
+use Rattle.demands.proofs.Slots.{in-order, none-above, free-zero}
 
 ones : (es : List Entry) → total (λ (x : Entry). 1) es ≡ length es
 ones [] = refl
@@ -56,12 +56,12 @@ demand-3 regimeEnd made m turns g =
       closed-up = k .closed;
       valid = k .sound .valid;
       order = in-order log (k .sound);
-      apart = none-shared log (k .sound);
-      decided = λ x y. (shares-says x y, shares-made x y);
+      rated = λ minute. omega (arith, none-above log (k .sound) minute, k .same (lostBy minute));
+      decided = λ held from to mw. (room-says held from to mw, room-made held from to mw);
       free = free-zero log (k .sound);
       minutes = λ a b h l r q.
           by-minutes log (k .sound .valid) a b h l r q
-          ∙ ap MwMinutes (sum-same (lostIn (logEntries log)) (lostIn es) a (b - a) (λ t before. k .same (λ (x : Entry). cond (covers t x) (x .mw) 0)));
+          ∙ ap MwMinutes (sum-same (lostIn (logEntries log)) (lostIn es) a (b - a) (λ t before. k .same (lostBy t)));
       cut = λ a mid b h l z first second whole p q r.
           let x : lostFigure first ≡ lostEnergy a mid (logEntries log) = ap lostFigure (by-minutes log (k .sound .valid) a mid h (omega arith) first p) in
           let y : lostFigure second ≡ lostEnergy mid b (logEntries log) = ap lostFigure (by-minutes log (k .sound .valid) mid b l z second q) in

@@ -7,13 +7,16 @@ use native.Mathlib.Omega.{arith}
 use lib.Dec.{leb, eqb, leb·zero, lit≤}
 use lib.IntN.{ℤ, pos, negsuc, negℤ}
 use lib.ListN.{getD}
+use Rattle.lists.proofs.Tests.{and-made}
 use Rattle.refusals.specs.Refusals.{firstApplicable}
 use Rattle.refusals.specs.declared.Refusal.the-variants.{TooLarge, BadPeriod}
 use Rattle.money.specs.Rounding.{upOf, roundDiv, onMagnitude, roundZ}
 use Rattle.calendar.specs.Years.{daysTo, yearStart, yearEnd}
-use Rattle.entries.specs.Row.{validRow}
+use Rattle.entries.specs.Row.{goodSpan}
+use Rattle.entries.proofs.Keeps.{lost-most}
+use Rattle.outage.proofs.LogHolding.{log-holding-valid}
 use Rattle.outage.specs.declared.Log.{Log}
-use Rattle.outage.specs.Log.{logEntries, mostMw}
+use Rattle.outage.specs.Log.{logEntries, validLog, lastRegimeEnd, mostMw}
 use Rattle.entries.proofs.Minutes.{by-minutes, energyOf}
 use Rattle.year.specs.Year.{goodYear}
 use Rattle.levels.specs.Book.{publishedBook, goodBook, targetOf}
@@ -37,7 +40,16 @@ use Rattle.settlement.proofs.Only.{only-gap, only-growth, only-pay}
 use Rattle.settlement.specs.declared.medians.Gap.the-variants as gap
 use Rattle.settlement.specs.declared.table.Growth.the-variants as growth
 use Rattle.settlement.specs.declared.paying.Payment.the-variants as payment
-use Rattle.demands.specs.Figures.{outFor, noOutage, wholeYear, bookWith, euroLine, fiveYears, FiveFigures, MarkedFigures}
+use Rattle.demands.specs.Figures.{outage, outFor, noOutage, wholeYear, bookWith, euroLine, fiveYears, FiveFigures, MarkedFigures}
+
+-- ---- the logs keep every rule
+none-out-valid : validLog noOutage ≡ true
+none-out-valid = log-holding-valid lastRegimeEnd [] refl (omega arith) (record { good = refl; order = refl; rated = λ minute. omega arith })
+
+out-valid : (start minutes : ℕ) → goodSpan lastRegimeEnd (outage start minutes) ≡ true → validLog (outFor start minutes) ≡ true
+out-valid start minutes g =
+    log-holding-valid lastRegimeEnd (outage start minutes ∷ []) refl (omega arith)
+    (record { good = and-made (and-made g refl) refl; order = refl; rated = λ minute. omega (arith, lost-most minute (outage start minutes)) })
 
 -- ---- levels
 -- the levels of a book that asks for nothing in year one, in a whole year without an outage
@@ -51,8 +63,7 @@ module _ (pcl aic pppi : ℕ) (cap floor : ℤ) (b : goodBook (bookWith pcl) ≡
 
   -- nothing stops them but the limit
   limit-alone : firstApplicable (levelsRows (bookWith pcl) (wholeYear aic pppi) noOutage) ≡ firstApplicable ((TooLarge, not (levelFits cap && levelFits floor)) ∷ [])
-  unfolding validRow
-  limit-alone = rw (b, k, c, floor-met) refl
+  limit-alone = rw (b, none-out-valid, k, c, floor-met) refl
 
   levels-are : (levelFits cap && levelFits floor) ≡ true → LevelsGives (bookWith pcl) (wholeYear aic pppi) noOutage (levels.Pounds cap floor)
   levels-are h =
@@ -106,18 +117,24 @@ module _ (log : Log) (number : ℕ) (clear : firstApplicable (availabilityRows p
 
 -- 2021: 104,832 minutes with the whole cable out still meet the target
 marked-met : TargetGives publishedBook (outFor 1009440 104832) 3 target.Met
-unfolding goodBook validRow yearStart daysTo
-marked-met = (refl, given-as (outFor 1009440 104832) 3 refl true (by-entries (outFor 1009440 104832) 3 ∙ refl))
+unfolding goodBook yearStart daysTo
+marked-met =
+    let clear : firstApplicable (availabilityRows publishedBook (outFor 1009440 104832) 3) ≡ 0 = rw (out-valid 1009440 104832 refl) refl in
+    (sym clear, given-as (outFor 1009440 104832) 3 clear true (by-entries (outFor 1009440 104832) 3 ∙ refl))
 
 -- one minute more misses it
 marked-missed : TargetGives publishedBook (outFor 1009440 104833) 3 target.Missed
-unfolding goodBook validRow yearStart daysTo
-marked-missed = (refl, given-as (outFor 1009440 104833) 3 refl false (by-entries (outFor 1009440 104833) 3 ∙ refl))
+unfolding goodBook yearStart daysTo
+marked-missed =
+    let clear : firstApplicable (availabilityRows publishedBook (outFor 1009440 104833) 3) ≡ 0 = rw (out-valid 1009440 104833 refl) refl in
+    (sym clear, given-as (outFor 1009440 104833) 3 clear false (by-entries (outFor 1009440 104833) 3 ∙ refl))
 
 -- 2020, a leap year: 106,272 minutes meet it
 marked-leap : TargetGives publishedBook (outFor 482400 106272) 2 target.Met
-unfolding goodBook validRow yearStart daysTo
-marked-leap = (refl, given-as (outFor 482400 106272) 2 refl true (by-entries (outFor 482400 106272) 2 ∙ refl))
+unfolding goodBook yearStart daysTo
+marked-leap =
+    let clear : firstApplicable (availabilityRows publishedBook (outFor 482400 106272) 2) ≡ 0 = rw (out-valid 482400 106272 refl) refl in
+    (sym clear, given-as (outFor 482400 106272) 2 clear true (by-entries (outFor 482400 106272) 2 ∙ refl))
 
 -- ---- carries
 carries : carryOf (pos 1250) 10000 10000 ∷ carryOf (negsuc 1249) 10000 10000 ∷ carryOf (pos 50000000) 10000 10200 ∷ [] ≡ pos 1298 ∷ negsuc 1297 ∷ pos 52978800 ∷ []

@@ -184,7 +184,7 @@ empty-agrees regimeEnd = by (goodRegimeEnd regimeEnd) refl
   where
     fresh : (re : ℕ) → goodRegimeEnd re ≡ true → Agrees re (logHolding re []) []
     fresh re g = record {
-      sound = record { rows = refl; valid = log-holding-valid re [] g (omega arith) (record { good = refl; order = refl; shared = refl }) };
+      sound = record { rows = refl; valid = log-holding-valid re [] g (omega arith) (record { good = refl; order = refl; rated = λ minute. omega arith }) };
       same = λ f. refl;
       end = refl;
       closed = refl;

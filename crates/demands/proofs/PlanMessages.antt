@@ -19,7 +19,7 @@ use Rattle.codec.specs.Theorems.{Bytes}
 use Rattle.plan_message.specs.declared.PlanRead.{PlanRead}
 use Rattle.plan_message.specs.Form.{planBytes, mostBytes, planReading}
 use Rattle.plan_message.specs.Calls.{ReadPlanGives, WritePlanGives, writePlanRows}
-use Rattle.plan_message.specs.Theorems.{planFits, IsPlanOf, RefusalPlace}
+use Rattle.plan_message.specs.Theorems.{planFits, IsPlanOf, RefusalPlace, FollowedAt}
 use Rattle.plan_message.proofs.Answers.{too-long}
 use Rattle.plan_message.proofs.Only.{only-read-plan}
 use Rattle.plan_message.proofs.RoundTrip.{written-read, same-bytes}
@@ -60,12 +60,12 @@ module _ (bs : List ℕ) (b : Bytes bs) (t : PlanRead) (g : ReadPlanGives bs t) 
           let p : t .place ≡ place = g .1 ∙ rw e refl in
           rw p (refusal-place bs why place b few e, λ other s. place-alone bs b few why place e other s)
 
-pub plan-one-of-three : (bs : List ℕ) (t : PlanRead) → ReadPlanGives bs t → (answerNumber (t .answer) ≡ 0 → ⊥) → (t .place ≡ 0) ⊎ ((t .place ≡ 17) ⊎ (t .place ≡ 8192))
-plan-one-of-three bs t g z = by (planReading bs) refl
+pub plan-one-of-three : (bs : List ℕ) → Bytes bs → (t : PlanRead) → ReadPlanGives bs t → (answerNumber (t .answer) ≡ 0 → ⊥) → (t .place ≡ 0) ⊎ (FollowedAt bs (t .place) ⊎ (t .place ≡ 8192))
+plan-one-of-three bs b t g z = by (planReading bs) refl
   where
-    by : (r : Reading Plan) → planReading bs ≡ r → (t .place ≡ 0) ⊎ ((t .place ≡ 17) ⊎ (t .place ≡ 8192))
+    by : (r : Reading Plan) → planReading bs ≡ r → (t .place ≡ 0) ⊎ (FollowedAt bs (t .place) ⊎ (t .place ≡ 8192))
     by (whole p) e = absurd (z (g .0 ∙ rw e refl))
-    by (refused why place) e = let p : t .place ≡ place = g .1 ∙ rw e refl in rw p (three-places bs why place e)
+    by (refused why place) e = let p : t .place ≡ place = g .1 ∙ rw e refl in rw p (three-places bs b why place e)
 
 pub plan-longer-is : (bs : List ℕ) (t : PlanRead) → ReadPlanGives bs t → mostBytes < length bs → (answerNumber (t .answer) ≡ 13) × (t .place ≡ mostBytes)
 plan-longer-is bs t g h = (g .0 ∙ rw (too-long bs h) refl, g .1 ∙ rw (too-long bs h) refl)

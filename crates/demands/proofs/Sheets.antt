@@ -4,7 +4,7 @@ use mathlib.Core.Bool.{Bool, true, false, cond, _&&_}
 use mathlib.Core.List.{List, [], _∷_, _++_, map, append-assoc, append-nil}
 use Prim.Native.Nat.{ℕ, _+_, _≤_, _<_}
 use native.Mathlib.Omega.{arith}
-use borrow.Author.Tests.{eq-eqb, leb-true, lt-leb, lt-ltb, le-ltb}
+use borrow.Author.Tests.{eq-eqb, leb-true, lt-leb, le-ltb}
 use lib.Dec.{leb}
 use lib.ListN.{length, take, drop, length-append}
 use lib.Seq.{append-snoc, take-at}
@@ -17,20 +17,22 @@ use Rattle.refusals.proofs.Cases.{same-case}
 use Rattle.refusals.proofs.Writing.{written-answers}
 use Rattle.refusals.proofs.Laws.{AllClear, all-clear}
 use Rattle.entries.specs.declared.Entry.{Entry}
-use Rattle.entries.specs.Row.{goodSpan, goodPower, goodEntry, putInOrder}
-use Rattle.entries.proofs.Order.{follows, follows-valid, good-span, rules-say}
+use Rattle.entries.specs.Row.{goodSpan, goodLoss, hasRoom, putInOrder}
+use Rattle.entries.proofs.Keeps.{good-most}
 use Rattle.outage.specs.declared.Log.{Log}
 use Rattle.outage.specs.declared.Logged.{Logged}
 use Rattle.outage.specs.Log.{slots, goodRegimeEnd, logEntries, validLog, closedAt, logHolding}
 use Rattle.outage.specs.Calls.{enterRows, enterLog, EnterGives}
 use Rattle.outage.proofs.LogHolding.{valid-end, open-is, open-holds, log-holding-entries, log-holding-valid}
 use Rattle.outage.proofs.Only.{one-empty, one-enter}
-use Rattle.sheet_format.proofs.Ends.{endOf, end-last, follows-end, follows-more, none-shared}
+use Rattle.sheet_format.proofs.Apart.{sheetEntry, follows, follows-says, rest-follows, shown-good}
+use Rattle.sheet_format.proofs.Ends.{endOf, end-last, follows-more, first-ahead, none-held, room-after}
 use Rattle.codec.specs.Message.{Reading, whole, refused}
 use Rattle.codec.specs.Theorems.{Bytes}
 use Rattle.outage_field.specs.Field.{entryBytes}
 use Rattle.sheet_format.specs.declared.Sheet.{Sheet}
 use Rattle.sheet_format.specs.Pieces.{meant, piecesIn}
+use Rattle.sheet_format.specs.Shown.{onSheet}
 use Rattle.sheet_format.specs.Sheet.{readSheetRows, sheetReading, sheetLog, sheetOf, writeSheetRows}
 use Rattle.sheet_round_trip.specs.Sheets.{IsSheetOf, longestSheet}
 use Rattle.sheet_round_trip.specs.Sheets as sheets
@@ -50,19 +52,18 @@ use Rattle.demands.proofs.Demand3.{demand-3}
 put-last : (re from : ℕ) (es : List Entry) (e : Entry) → follows re from es ≡ true → endOf from es ≤ e .start → putInOrder e es ≡ es ++ (e ∷ [])
 put-last re from [] e f h = refl
 put-last re from (x ∷ es) e f h =
-    let t = leb from (x .start) && goodEntry re x in
-    let g = and-right (leb from (x .start)) (goodEntry re x) (and-left t (follows re (x .end) es) f) in
-    let r = and-right t (follows re (x .end) es) f in
-    rw (lt-ltb (x .start) (e .start) (omega (arith, good-span re x g, follows-end re (x .end) es r, h)), put-last re (x .end) es e r h) refl
+    rw (first-ahead re from x es e f h, put-last re (x .end) es e (rest-follows re from x es f) h) refl
 
 module _ (re : ℕ) (good : goodRegimeEnd re ≡ true) where
   -- ---- one entry more
-  module _ (held : List Entry) (e : Entry) (f : follows re 0 held ≡ true) (from : endOf 0 held ≤ e .start) (g : goodEntry re e ≡ true) (room : length held < slots) where
+  module _ (held : List Entry) (e : Entry) (f : follows re 0 held ≡ true) (from : endOf 0 held ≤ e .start) (s : sheetEntry re e ≡ true) (room : length held < slots) where
     taken : firstApplicable (enterRows (logHolding re held) e) ≡ 0
     taken =
-        let v = log-holding-valid re held good (omega arith) (rules-say re held (sym (follows-valid re held) ∙ f)) in
-        let n = none-shared re 0 held e f from in
-        rw (v, and-left (goodSpan re e) (goodPower e) g, and-right (goodSpan re e) (goodPower e) g, le-ltb (e .start) 0 (omega arith), log-holding-entries re held, n, lt-leb slots (length held) room) refl
+        let g = shown-good re e s in
+        let v = log-holding-valid re held good (omega arith) (follows-says re 0 held f .0 .rules) in
+        let n = none-held re 0 held e f from in
+        let r : hasRoom held (e .start) (e .end) (e .mw) ≡ true = room-after re 0 held e f from (good-most re e g) in
+        rw (v, and-left (goodSpan re e) (goodLoss e) g, and-right (goodSpan re e) (goodLoss e) g, le-ltb (e .start) 0 (omega arith), log-holding-entries re held, n, r, lt-leb slots (length held) room) refl
 
     entered : enterLog (logHolding re held) e ≡ logHolding re (held ++ (e ∷ []))
     entered =
@@ -90,10 +91,10 @@ module _ (re : ℕ) (good : goodRegimeEnd re ≡ true) where
   enters : (held rest : List Entry) → follows re 0 held ≡ true → follows re (endOf 0 held) rest ≡ true → length held + length rest ≤ slots → Enters held rest
   enters held [] f h few = record { turns = []; calls = refl; ran = tt; events = refl; gives = rw append-nil refl }
   enters held (e ∷ rest) f h few =
-      let t = leb (endOf 0 held) (e .start) && goodEntry re e in
+      let t = leb (endOf 0 held) (e .start) && sheetEntry re e in
       let a = and-left t (follows re (e .end) rest) h in
-      let from = leb-true (endOf 0 held) (e .start) (and-left (leb (endOf 0 held) (e .start)) (goodEntry re e) a) in
-      let g = and-right (leb (endOf 0 held) (e .start)) (goodEntry re e) a in
+      let from = leb-true (endOf 0 held) (e .start) (and-left (leb (endOf 0 held) (e .start)) (sheetEntry re e) a) in
+      let g = and-right (leb (endOf 0 held) (e .start)) (sheetEntry re e) a in
       let o = one-enter (logHolding re held) e in
       let k : follows re 0 (held ++ (e ∷ [])) ≡ true = follows-more re 0 held e ∙ and-made f a in
       one-more held e rest (o .result) (o .meets) (o .meets .0 ∙ taken held e f from g (omega arith)) (o .meets .1 ∙ entered held e f from g (omega arith))
@@ -128,8 +129,8 @@ module _ (re : ℕ) (bs : List ℕ) (b : Bytes bs) (t : Sheet) (g : SheetGives r
   from-sheet =
       let i = sheet-is in
       let es = logEntries (t .log) in
-      let m : meant (piecesIn es) ≡ es = sheet-means (t .log) (i .slotted) (i .valid) in
-      let f : follows re 0 es ≡ true = ap (λ (r : ℕ). follows r 0 es) (sym (i .end)) ∙ in-turn (t .log) (i .slotted) (i .valid) in
+      let m : meant (piecesIn es) ≡ es = sheet-means (t .log) (i .slotted) (i .valid) (i .shown) in
+      let f : follows re 0 es ≡ true = ap (λ (r : ℕ). follows r 0 es) (sym (i .end)) ∙ in-turn (t .log) (i .slotted) (i .valid) (i .shown) in
       let o = one-empty re in
       let made : o .result .log ≡ logHolding re [] = o .meets .1 ∙ rw sheet-end refl in
       let r = enters re sheet-end [] es refl f (omega (arith, log-few (t .log) (i .slotted) (i .valid))) in
@@ -176,6 +177,9 @@ module _ (log : Log) (slotted : length (log .entries) ≡ slots) (out o : List �
   valid : validLog log ≡ true
   valid = not-no (validLog log) (all-clear (writeSheetRows log (length out)) (sym (w .0)) .0)
 
+  shown : onSheet (logEntries log) ≡ true
+  shown = not-no (onSheet (logEntries log)) (all-clear (writeSheetRows log (length out)) (sym (w .0)) .1 .0)
+
   long : n ≡ length (sheetOf log)
   long = w .1 ∙ ap (λ (b : Bool). cond b (length (sheetOf log)) 0) yes
 
@@ -188,12 +192,12 @@ module _ (log : Log) (slotted : length (log .entries) ≡ slots) (out o : List �
   pub sheet-reads-back : (t : Sheet) → SheetGives (log .«regime_end») (take n o) t → (t ≡ record { log = closedAt log 0; answer = Done; place = 0 }) × (log .closed ≡ 0 → t .log ≡ log)
   sheet-reads-back t g =
       let good = valid-end log valid in
-      let read : sheetReading (log .«regime_end») (take n o) ≡ whole (closedAt log 0) = ap (sheetReading (log .«regime_end»)) front ∙ written-read (log .«regime_end») good log slotted refl valid in
+      let read : sheetReading (log .«regime_end») (take n o) ≡ whole (closedAt log 0) = ap (sheetReading (log .«regime_end»)) front ∙ written-read (log .«regime_end») good log slotted refl valid shown in
       let is : t ≡ record { log = closedAt log 0; answer = Done; place = 0 } = only-read-sheet (log .«regime_end») (take n o) t (record { log = closedAt log 0; answer = Done; place = 0 }) g (rw (good, read) (refl, refl, refl)) in
       (is, λ h. ap (λ (x : Sheet). x .log) is ∙ open-is log h)
 
   pub sheet-not-longer : n ≤ longestSheet
-  sheet-not-longer = omega (arith, long, sheet-most log slotted valid)
+  sheet-not-longer = omega (arith, long, sheet-most log slotted valid shown)
 
 -- ---- a sheet that was read gives its own bytes
 pub sheet-writes-back : (re : ℕ) (bs : List ℕ) → Bytes bs → (t : Sheet) → SheetGives re bs t → answerNumber (t .answer) ≡ 0
@@ -201,7 +205,7 @@ pub sheet-writes-back : (re : ℕ) (bs : List ℕ) → Bytes bs → (t : Sheet) 
 sheet-writes-back re bs b t g n out o r w room =
     let i = sheet-is re bs b t g n in
     let v : WriteSheetGives (t .log) out r o = w in
-    let z = rw (i .valid, i .is, le-ltb (length out) (length bs) room) at v in
+    let z = rw (i .valid, i .shown, i .is, le-ltb (length out) (length bs) room) at v in
     (same-case written-answers r (Length (length bs)) (z .0) (z .1), z .2)
 
 -- ---- the place of a refused sheet

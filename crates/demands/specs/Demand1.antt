@@ -151,8 +151,8 @@ pub record Demand1 : Type 0 where
   pub read-cells-checks : (cells : List Slot) (r : CellsRead) → ReadCellsGives cells r → ((i : ℕ) → i < 28 → badCell cells i ≡ true → answerNumber (r .answer) ≡ 18)
   pub read-cells-first : (cells : List Slot) (r : CellsRead) → ReadCellsGives cells r → (answerNumber (r .answer) ≡ 0 → ⊥)
       → (badCell cells (r .index) ≡ true) × ((i : ℕ) → i < r .index → badCell cells i ≡ false)
-  -- ---- "A refused call has a fixed number": 1 to 18, each for one refusal
-  pub numbered : (why : Refusal) → (1 ≤ refusalNumber why) × (refusalNumber why ≤ 18)
+  -- ---- "A refused call has a fixed number": 1 to 20, each for one refusal
+  pub numbered : (why : Refusal) → (1 ≤ refusalNumber why) × (refusalNumber why ≤ 20)
   pub fixed : (why other : Refusal) → refusalNumber why ≡ refusalNumber other → why ≡ other
   -- ---- "gives back the log it got", to the last slot
   pub enter-refused : (log : Log) (e : Entry) (r : Logged) → EnterGives log e r → (answerNumber (r .answer) ≡ 0 → ⊥) → r .log ≡ log

@@ -209,7 +209,7 @@ pub record Demand2 : Type 0 where
   -- a sheet that is read and written again gives its own bytes, where there is room, and nothing else changes
   pub sheet-read-written : (regimeEnd : ℕ) (bs : List ℕ) → Bytes bs → (t : Sheet) → SheetGives regimeEnd bs t → answerNumber (t .answer) ≡ 0
       → (out o : List ℕ) (r : Written) → WriteSheetGives (t .log) out r o → length bs ≤ length out → (r ≡ Length (length bs)) × (o ≡ bs ++ drop (length bs) out)
-  -- a sheet is accepted exactly where some valid log to the regime end, all of it open, has these bytes, and one log alone has them
+  -- a sheet is accepted exactly where some valid log to the regime end that a sheet shows, all of it open, has these bytes, and one log alone has them
   pub is-sheet : (regimeEnd : ℕ) (bs : List ℕ) → Bytes bs → (t : Sheet) → SheetGives regimeEnd bs t
       → (answerNumber (t .answer) ≡ 0 → IsSheet regimeEnd bs) × (IsSheet regimeEnd bs → answerNumber (t .answer) ≡ 0)
   pub sheet-same-bytes : (regimeEnd : ℕ) (x y : Log) (bs : List ℕ) → IsSheetOf regimeEnd x bs → IsSheetOf regimeEnd y bs → x ≡ y
@@ -231,10 +231,10 @@ pub record Demand2 : Type 0 where
   pub is-plan : (bs : List ℕ) → Bytes bs → (t : PlanRead) → ReadPlanGives bs t
       → (answerNumber (t .answer) ≡ 0 → IsPlanOf (t .plan) bs) × ((p : Plan) → IsPlanOf p bs → answerNumber (t .answer) ≡ 0)
   pub plan-same-bytes : (p q : Plan) (bs : List ℕ) → IsPlanOf p bs → IsPlanOf q bs → p ≡ q
-  -- rule 18.8: the one place of a refused message, which is 0, 17 or 8,192
+  -- rule 18.8: the one place of a refused message, which is 0, the length of the plan that it begins with, or 8,192
   pub plan-place : (bs : List ℕ) → Bytes bs → (t : PlanRead) → ReadPlanGives bs t → (answerNumber (t .answer) ≡ 0 → ⊥) → length bs ≤ mostBytes
       → plans.RefusalPlace bs (t .place) × ((other : ℕ) → plans.RefusalPlace bs other → other ≡ t .place)
-  pub plan-places : (bs : List ℕ) (t : PlanRead) → ReadPlanGives bs t → (answerNumber (t .answer) ≡ 0 → ⊥) → (t .place ≡ 0) ⊎ ((t .place ≡ 17) ⊎ (t .place ≡ 8192))
+  pub plan-places : (bs : List ℕ) → Bytes bs → (t : PlanRead) → ReadPlanGives bs t → (answerNumber (t .answer) ≡ 0 → ⊥) → (t .place ≡ 0) ⊎ (plans.FollowedAt bs (t .place) ⊎ (t .place ≡ 8192))
   pub plan-longer : (bs : List ℕ) (t : PlanRead) → ReadPlanGives bs t → mostBytes < length bs → (answerNumber (t .answer) ≡ 13) × (t .place ≡ mostBytes)
   -- ---- rules 19.2 and 19.3: the period of two days is exact, its median too, and the gap of two periods is that of their days
   pub period-exact : (first last : ℕ) (r : MadePeriod) → MakeGives first last r → answerNumber (r .answer) ≡ 0 → (r .period ≡ mediansOf first last) × ExactPeriod first last

@@ -1,18 +1,18 @@
 -- Demand 3, of one run. From an empty log, after any sequence of entries, plans, cancellations and closings, refused calls too, where
--- a plan counts as its entries in order and closing alters no entry, the log holds exactly the entries accepted and not since cancelled, in order of start, no two sharing a minute. Cut
--- any stretch of the regime at any minute, midnight or year end included: the lost energy of the two parts adds to that of the whole,
+-- a plan counts as its entries in order and closing alters no entry, the log holds exactly the entries accepted and not since cancelled, in order of start, no minute losing more than rated
+-- capacity. Cut any stretch of the regime at any minute, midnight or year end included: the lost energy of the two parts adds to that of the whole,
 -- and the whole equals the minute-by-minute sum over those entries. So no year loses more than rated capacity times its minutes.
 use mathlib.Core.Path.{_≡_}
 use mathlib.Core.Bool.{true, cond}
 use mathlib.Core.List.{List}
+use mathlib.Core.Logic.{_⊎_}
 use Prim.Native.Nat.{ℕ, _+_, _-_, _*_, _<_, _≤_}
 use lib.ListN.{length}
 use Rattle.lists.specs.Lists.{sumFrom}
 use Rattle.calendar.specs.declared.YearMinutes.{YearMinutes}
 use Rattle.calendar.specs.Years.{minutesNumber, firstFigure, endFigure, MinutesGives}
 use Rattle.entries.specs.declared.Entry.{Entry}
-use Rattle.entries.specs.Row.{sharesMinute, lostIn}
-use Rattle.entries.specs.Theorems.{BothCover}
+use Rattle.entries.specs.Row.{lostIn, hasRoom}
 use Rattle.outage.specs.declared.Log.{Log}
 use Rattle.outage.specs.declared.losing.LostEnergy.{LostEnergy}
 use Rattle.outage.specs.declared.losing.LostEnergy.the-variants.{MwMinutes}
@@ -35,12 +35,15 @@ pub record Demand3 (regimeEnd : ℕ) (log : Log) (es : List Entry) (closed : ℕ
   pub closed-up : log .closed ≡ closed
   -- it keeps every rule of the log
   pub valid : validLog log ≡ true
-  -- "in order of start"
-  pub order : (i j : ℕ) → i < j → j < log .count → slot log i .start < slot log j .start
-  -- "no two sharing a minute": there is none that both cover
-  pub apart : (i j : ℕ) → i < j → j < log .count → BothCover (slot log i) (slot log j) → ⊥
-  -- the test by which `enter` refuses an entry decides that
-  pub decided : (x y : Entry) → (sharesMinute x y ≡ true → BothCover x y) × (BothCover x y → sharesMinute x y ≡ true)
+  -- "in order of start", and of cause where two start together, so that no two have both the same
+  pub order : (i j : ℕ) → i < j → j < log .count
+      → (slot log i .start < slot log j .start) ⊎ ((slot log i .start ≡ slot log j .start) × (slot log i .cause < slot log j .cause))
+  -- "no minute losing more than rated capacity"
+  pub rated : (minute : ℕ) → lostIn es minute ≤ mostMw
+  -- the test by which `enter` refuses an entry decides that, minute by minute
+  pub decided : (held : List Entry) (from to mw : ℕ)
+      → (hasRoom held from to mw ≡ true → (minute : ℕ) → from ≤ minute → minute < to → lostIn held minute + mw ≤ mostMw)
+      × (((minute : ℕ) → from ≤ minute → minute < to → lostIn held minute + mw ≤ mostMw) → hasRoom held from to mw ≡ true)
   -- a slot that holds no entry is zero
   pub free : (i : ℕ) → log .count ≤ i → i < slots → slot log i ≡ zeroEntry
   -- "the whole equals the minute-by-minute sum over those entries", as `lost_energy` answers

@@ -5,6 +5,7 @@ use mathlib.Core.List.{List, [], _∷_, map}
 use Prim.Native.Nat.{ℕ, _+_}
 use lib.IntN.{ℤ, pos, negℤ}
 use Rattle.refusals.specs.declared.Refusal.the-variants.{TooLarge, BadPeriod}
+use Rattle.entries.specs.declared.Entry.{Entry}
 use Rattle.outage.specs.declared.Log.{Log}
 use Rattle.outage.specs.Log.{logHolding, lastRegimeEnd}
 use Rattle.year.specs.declared.Line.{Line}
@@ -34,8 +35,11 @@ use Rattle.settlement.specs.Gap.{goodPeriod, daySum}
 use Rattle.settlement.specs.Calls.{GapGives, GrowthGives, PayGives}
 
 -- the whole cable out for some minutes from a start on
+abbrev pub outage : ℕ → ℕ → Entry
+outage start minutes = record { start = start; end = start + minutes; mw = 1000; cause = 1 }
+
 abbrev pub outFor : ℕ → ℕ → Log
-outFor start minutes = logHolding lastRegimeEnd (record { start = start; end = start + minutes; mw = 1000 } ∷ [])
+outFor start minutes = logHolding lastRegimeEnd (outage start minutes ∷ [])
 
 abbrev pub noOutage : Log
 noOutage = logHolding lastRegimeEnd []

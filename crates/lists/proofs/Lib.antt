@@ -4,3 +4,4 @@ pub mod Lists
 pub mod Places
 pub mod Tables
 pub mod Padded
+pub mod Each

@@ -37,3 +37,8 @@ sumFrom a (suc n) f = sumFrom a n f + f (a + n)
 -- the elements in the first of n slots, and z in each slot past them
 abbrev pub padded : {A : Type 0} → ℕ → A → List A → List A
 padded n z l = l ++ replicate (n - length l) z
+
+-- each of the n numbers from a on passes the test
+unfoldable pub each : ℕ → ℕ → (ℕ → Bool) → Bool
+each a zero p = true
+each a (suc n) p = each a n p && p (a + n)

@@ -18,6 +18,14 @@ fn refused(why: Refusal) {
     number(why.number() as u64);
 }
 
+// The cause, where it is not 1.
+fn named(cause: u8) {
+    if cause != 1 {
+        text(b", cause ");
+        number(cause as u64);
+    }
+}
+
 // An outage that was to be entered, and the answer.
 pub(crate) fn entered(e: Entry, answer: Answer) {
     text(b"enter ");
@@ -26,7 +34,9 @@ pub(crate) fn entered(e: Entry, answer: Answer) {
     number(e.end as u64);
     text(b" at ");
     number(e.mw as u64);
-    text(b" MW: ");
+    text(b" MW");
+    named(e.cause);
+    text(b": ");
     match answer {
         Answer::Done => text(b"done"),
         Answer::Refused(why) => refused(why),

@@ -6,7 +6,7 @@ use lib.Dec.{leb}
 use Rattle.entries.specs.declared.Entry.{Entry}
 use Rattle.plan.specs.declared.Plan.{Plan}
 
--- ---- rule 18.1: each outage starts a step of so many days after the one before it
+-- ---- rule 18.1: each outage starts a step of so many days after the one before it, and all have the plan's MW and cause
 abbrev pub stepMinutes : Plan → ℕ
 stepMinutes p = p .step * 1440
 
@@ -14,7 +14,7 @@ abbrev pub startAfter : Plan → ℕ → ℕ
 startAfter p steps = p .start + steps * stepMinutes p
 
 abbrev pub outageAfter : Plan → ℕ → Entry
-outageAfter p steps = record { start = startAfter p steps; end = startAfter p steps + p .length; mw = p .mw }
+outageAfter p steps = record { start = startAfter p steps; end = startAfter p steps + p .length; mw = p .mw; cause = p .cause }
 
 -- n outages, the first of them after so many steps
 unfoldable pub outagesFrom : Plan → ℕ → ℕ → List Entry
@@ -33,4 +33,4 @@ goodPlan p = (leb 1 (p .count) && leb (p .count) mostOutages) && (leb 1 (p .step
 
 -- ---- rule 12.3: a plan of zeros
 abbrev pub noPlan : Plan
-noPlan = record { start = 0; length = 0; step = 0; count = 0; mw = 0 }
+noPlan = record { start = 0; length = 0; step = 0; count = 0; mw = 0; cause = 0 }

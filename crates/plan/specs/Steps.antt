@@ -16,7 +16,7 @@ latest = 4294967295
 
 -- the outage after so many steps, each minute saturated
 abbrev pub fittedAt : Plan → ℕ → Entry
-fittedAt p steps = record { start = min (outageAfter p steps .start) latest; end = min (outageAfter p steps .end) latest; mw = p .mw }
+fittedAt p steps = record { start = min (outageAfter p steps .start) latest; end = min (outageAfter p steps .end) latest; mw = p .mw; cause = p .cause }
 
 -- a refused list as the call gives it
 abbrev pub listRefused : Refusal → ℕ → Listed

@@ -10,13 +10,14 @@ ghost use Prim.Native.Nat.{min};
 ghost use Rattle.plan.specs.Steps.{fittedAt, latest};
 
 // The first start, how many minutes a window lasts, how many days lie from one start to the next, how many windows there are, and
-// the MW lost in each.
+// the MW lost in each and its cause.
 pub struct Plan {
     pub start: u32,
     pub length: u32,
     pub step: u16,
     pub count: u16,
     pub mw: u16,
+    pub cause: u8,
 }
 
 // The minutes of a day.
@@ -46,6 +47,7 @@ impl Plan {
             step: 0,
             count: 0,
             mw: 0,
+            cause: 0,
         }
     }
 
@@ -75,6 +77,7 @@ impl Plan {
             start: fitted(start),
             end: fitted(start + self.length as u64),
             mw: self.mw,
+            cause: self.cause,
         }
     }
 }

@@ -1,7 +1,7 @@
 // The outages of a plan, one by one: rule 18.4.
 use super::Plan;
 use entries::Entry;
-use entries::good_power;
+use entries::good_loss;
 use entries::good_regime_end;
 use entries::good_span;
 use refusals::Answer;
@@ -41,7 +41,7 @@ fn outage_answer(e: Entry, regime_end: u32) -> Answer
     if !good_span(e, regime_end) {
         return Answer::Refused(Refusal::BadSpan);
     }
-    if !good_power(e) {
+    if !good_loss(e) {
         return Answer::Refused(Refusal::BadPower);
     }
     Answer::Done

@@ -1,7 +1,8 @@
 -- Laws on entering a plan.
-pub mod Between
-pub mod Merges
-pub mod Steps
-pub mod OnEmpty
 pub mod Accepted
+pub mod Between
+pub mod Entering
+pub mod OnEmpty
 pub mod Only
+pub mod Passing
+pub mod Steps

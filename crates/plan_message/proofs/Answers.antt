@@ -1,8 +1,7 @@
 -- What reading and writing a plan answer, a law for each return. Assumes nothing.
-use mathlib.Core.Path.{_≡_, refl, _∙_}
-use mathlib.Core.Bool.{false}
+use mathlib.Core.Path.{_≡_, refl, ap, _∙_}
 use mathlib.Core.List.{List}
-use mathlib.Core.Option.{some}
+use mathlib.Core.Option.{some, none}
 use Prim.Native.Nat.{ℕ, _≤_, _<_}
 use native.Mathlib.Nat.{zero-add}
 use native.Mathlib.Omega.{arith}
@@ -12,21 +11,17 @@ use Rattle.refusals.specs.declared.Refusal.the-variants.{NoRoom}
 use Rattle.refusals.specs.declared.Answer.the-variants.{Done}
 use Rattle.refusals.specs.declared.Written.the-variants as W
 use Rattle.plan.specs.declared.Plan.{Plan}
-use Rattle.codec.specs.Fields.{framed}
-use Rattle.codec.specs.Format.{field, malformed, ReadAt}
+use Rattle.codec.specs.Format.{malformed, need, ReadAt}
 use Rattle.codec.specs.Buffers.{Wrote}
 use Rattle.codec.specs.Message.{whole, refused}
-use Rattle.codec.proofs.Positions.{field-not, one-some}
 use Rattle.codec.proofs.Buffers.{front}
 use Rattle.codec.proofs.Message.{longer}
 use Rattle.codec.proofs.Steps as Steps
-use Rattle.codec.proofs.Steps.{one-none}
-use Rattle.codec.proofs.Found.{Whole, spells}
 use Rattle.plan_message.specs.declared.PlanRead.{PlanRead}
-use Rattle.plan_message.specs.Form.{planLayout, planTag, planForm, planBytes, mostBytes, planReading}
+use Rattle.plan_message.specs.Form.{planItem, planForm, planBytes, mostBytes, planReading}
 use Rattle.plan_message.specs.Calls.{ReadPlanGives, WritePlanGives}
 use Rattle.plan_message.specs.Steps.{messageBytes, refusedAt}
-use Rattle.plan_message.proofs.Laws.{message-size, plan-read}
+use Rattle.plan_message.proofs.Laws.{message-size, plan-item}
 
 -- ---- how far the reading comes
 module _ (s : List ℕ) where
@@ -36,27 +31,20 @@ module _ (s : List ℕ) where
 
   module _ (few : length s ≤ mostBytes) where
     -- they do not begin with the field of a plan
-    pub no-field : framed planTag 14 s ≡ false → planReading s ≡ refused malformed 0
-    no-field e = Steps.stopped-whole planForm (λ p. p) mostBytes s few (one-none planTag planLayout s 0 (omega arith) (field-not planTag planLayout s e))
+    pub no-field : planItem .look s ≡ none → planReading s ≡ refused malformed 0
+    no-field e = Steps.stopped-whole planForm (λ p. p) mostBytes s few (record { is = ap (need planItem s) e; inside = omega arith })
 
-    module _ {p : Plan} (e : field planTag planLayout s ≡ some p) where
-      at-front : ReadAt planForm s 0 p messageBytes
-      at-front = one-some planTag planLayout s 0 p messageBytes (omega arith) refl e
+    module _ {p : Plan} (e : planItem .look s ≡ some p) where
+      at-front : ReadAt planForm s 0 p (messageBytes p)
+      at-front = record { is = ap (need planItem s) e; inside = plan-item .taken s p e .1 }
 
       -- something follows it
-      pub followed : messageBytes < length s → planReading s ≡ refused malformed messageBytes
+      pub followed : messageBytes p < length s → planReading s ≡ refused malformed (messageBytes p)
       followed = Steps.left-over planForm (λ p. p) mostBytes s few at-front
 
       -- nothing does
-      pub alone : length s ≤ messageBytes → planReading s ≡ whole p
+      pub alone : length s ≤ messageBytes p → planReading s ≡ whole p
       alone = Steps.none-left planForm (λ p. p) mostBytes s few at-front
-
-    -- whatever numbers a whole field holds
-    pub followed-whole : Whole s 0 planTag 14 → messageBytes < length s → planReading s ≡ refused malformed messageBytes
-    followed-whole w =
-        followed
-        (plan-read w (spells w (omega arith) (omega arith) refl) (spells w (omega arith) (omega arith) refl) (spells w (omega arith) (omega arith) refl)
-        (spells w (omega arith) (omega arith) refl) (spells w (omega arith) (omega arith) refl))
 
   -- ---- what the calls ensure
   pub gives-refused : (place : ℕ) (r : PlanRead) → r ≡ refusedAt place → planReading s ≡ refused malformed place → ReadPlanGives s r
@@ -66,10 +54,10 @@ module _ (s : List ℕ) where
   gives-plan p f = rw f (refl, refl, refl)
 
 module _ (p : Plan) (o : List ℕ) where
-  pub gives-no-room : length o < messageBytes → WritePlanGives p o (W.Refused NoRoom) o
+  pub gives-no-room : length o < messageBytes p → WritePlanGives p o (W.Refused NoRoom) o
   gives-no-room h = simp (lt-ltb (length o) (length (planBytes p)) (omega (arith, message-size p))) (refl, refl, refl)
 
-  pub gives-length : {o' : List ℕ} {n : ℕ} → messageBytes ≤ length o → Wrote o 0 (planBytes p) o' n → WritePlanGives p o (W.Length n) o'
+  pub gives-length : {o' : List ℕ} {n : ℕ} → messageBytes p ≤ length o → Wrote o 0 (planBytes p) o' n → WritePlanGives p o (W.Length n) o'
   gives-length h w =
       let k : length (planBytes p) ≤ length o = omega (arith, message-size p) in
       simp (le-ltb (length o) (length (planBytes p)) k) (refl, w .to ∙ zero-add (length (planBytes p)), front w k)

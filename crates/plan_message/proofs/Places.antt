@@ -1,5 +1,5 @@
--- 13 is given exactly where no plan has these bytes, at the one place where its message stops, and that is 0, 17 or 8,192. Assumes
--- nothing.
+-- 13 is given exactly where no plan has these bytes, at the one place where its message stops, and that is 0, the end of a plan's
+-- message, or 8,192. Assumes nothing.
 use mathlib.Core.Path.{_≡_, refl, sym, ap, _∙_}
 use mathlib.Core.Bool.{cond}
 use mathlib.Core.Logic.{_⊎_, inl, inr}
@@ -8,22 +8,23 @@ use mathlib.Core.Option.{Option, some, none}
 use Prim.Native.Nat.{ℕ, _≤_, _<_}
 use native.Mathlib.Nat.{not-suc-le-zero}
 use native.Mathlib.Omega.{arith}
-use lib.ListN.{length}
+use lib.ListN.{length, take, drop}
+use lib.Seq.{take-at}
 use Rattle.lists.proofs.Tests.{le-or-lt}
 use Rattle.refusals.specs.declared.Refusal.the-variants.{Malformed}
 use Rattle.refusals.specs.Refusals.{firstApplicable}
 use Rattle.plan.specs.declared.Plan.{Plan}
 use Rattle.plan.specs.Plan.{noPlan}
-use Rattle.codec.specs.Format.{field, malformed}
+use Rattle.codec.specs.Format.{malformed}
 use Rattle.codec.specs.Message.{Reading, whole, refused, isRefused, valueIn}
 use Rattle.codec.specs.Theorems.{Bytes}
 use Rattle.codec.proofs.Message as Message
-use Rattle.codec.proofs.Steps as Steps
-use Rattle.plan_message.specs.Form.{planLayout, planTag, planForm, mostBytes, planReading}
+use Rattle.plan_message.specs.Form.{planItem, planForm, planBytes, mostBytes, planReading}
 use Rattle.plan_message.specs.Calls.{readPlanRows, readPlanValue}
 use Rattle.plan_message.specs.Steps.{messageBytes}
-use Rattle.plan_message.specs.Theorems.{IsPlanOf, RefusalPlace}
-use Rattle.plan_message.proofs.Answers.{too-long, followed, alone}
+use Rattle.plan_message.specs.Theorems.{IsPlanOf, RefusalPlace, FollowedAt}
+use Rattle.plan_message.proofs.Answers.{too-long, no-field, followed, alone}
+use Rattle.plan_message.proofs.Laws.{plan-item, message-size, fits-fine}
 use Rattle.plan_message.proofs.RoundTrip.{plan-lawful, plan-placed, plan-numbered, plan-messages, written-read}
 
 -- ---- 13 exactly where no plan has these bytes
@@ -51,10 +52,10 @@ pub place-alone : (bs : List ℕ) → Bytes bs → length bs ≤ mostBytes → (
 place-alone = Message.place-alone plan-lawful plan-messages plan-placed mostBytes
 
 -- rule 18.8: whatever the bytes, the place is one of three
-abbrev OneOfThree : ℕ → Type 0
-OneOfThree place = (place ≡ 0) ⊎ ((place ≡ 17) ⊎ (place ≡ 8192))
+abbrev OneOfThree : List ℕ → ℕ → Type 0
+OneOfThree bs place = (place ≡ 0) ⊎ (FollowedAt bs place ⊎ (place ≡ 8192))
 
-module _ (bs : List ℕ) (why place : ℕ) (e : planReading bs ≡ refused why place) where
+module _ (bs : List ℕ) (b : Bytes bs) (why place : ℕ) (e : planReading bs ≡ refused why place) where
   same : (k n : ℕ) → planReading bs ≡ refused k n → place ≡ n
   same k n f = by (sym e ∙ f)
     where
@@ -67,17 +68,26 @@ module _ (bs : List ℕ) (why place : ℕ) (e : planReading bs ≡ refused why p
       by : _≡_ {A = Reading Plan} (refused why place) (whole p) → ⊥
       by g = let z : _≡_ {A = ℕ} 0 1 = cc in omega arith
 
-  pub three-places : (place ≡ 0) ⊎ ((place ≡ 17) ⊎ (place ≡ 8192))
+  -- the message that they begin with
+  begins : (p : Plan) → planItem .look bs ≡ some p → place ≡ messageBytes p → IsPlanOf p (take place bs)
+  unfolding planBytes
+  begins p f n =
+      let k = plan-item .back bs p b f in
+      record { fits = fits-fine p ∙ k .1; is = sym (ap (take place) (k .0) ∙ take-at (planBytes p) (drop (messageBytes p) bs) place (message-size p ∙ sym n)) }
+
+  pub three-places : (place ≡ 0) ⊎ (FollowedAt bs place ⊎ (place ≡ 8192))
   three-places = by (le-or-lt (length bs) mostBytes)
     where
-      found : length bs ≤ mostBytes → (o : Option Plan) → field planTag planLayout bs ≡ o → OneOfThree place
-      found h none f = inl (same malformed 0 (Steps.stopped-whole planForm (λ p. p) mostBytes bs h (Steps.one-none planTag planLayout bs 0 (omega arith) f)))
-      found h (some p) f = behind (le-or-lt (length bs) messageBytes)
+      found : length bs ≤ mostBytes → (o : Option Plan) → planItem .look bs ≡ o → OneOfThree bs place
+      found h none f = inl (same malformed 0 (no-field bs h f))
+      found h (some p) f = behind (le-or-lt (length bs) (messageBytes p))
         where
-          behind : (length bs ≤ messageBytes) ⊎ (messageBytes < length bs) → OneOfThree place
+          behind : (length bs ≤ messageBytes p) ⊎ (messageBytes p < length bs) → OneOfThree bs place
           behind (inl k) = absurd (not-whole p (alone bs h f k))
-          behind (inr k) = inr (inl (same malformed 17 (followed bs h f k)))
+          behind (inr k) =
+              let n = same malformed (messageBytes p) (followed bs h f k) in
+              inr (inl (record { plan = p; begins = begins p f n; ends = n; more = omega arith }))
 
-      by : (length bs ≤ mostBytes) ⊎ (mostBytes < length bs) → OneOfThree place
-      by (inl h) = found h (field planTag planLayout bs) refl
+      by : (length bs ≤ mostBytes) ⊎ (mostBytes < length bs) → OneOfThree bs place
+      by (inl h) = found h (planItem .look bs) refl
       by (inr h) = inr (inr (same malformed 8192 (too-long bs h)))

@@ -9,7 +9,7 @@ use borrow.Author.Tests.{eq-eqb, ne-eqb, eqb-true}
 use lib.Dec.{eqb}
 use lib.ListN.{getD}
 use Rattle.refusals.specs.declared.Refusal.{Refusal}
-use Rattle.refusals.specs.declared.Refusal.the-variants.{BrokenLog, BadSpan, BadPower, SharedMinute, FullLog, NoSuchStart, BadStretch, BadBook, BadYear, FloorAboveCap, TooLarge, BadPeriod, Malformed, NoRoom, BadPiece, ClosedTime, BadPlan, BadCell}
+use Rattle.refusals.specs.declared.Refusal.the-variants.{BrokenLog, BadSpan, BadPower, Clash, FullLog, NoSuchEntry, BadStretch, BadBook, BadYear, FloorAboveCap, TooLarge, BadPeriod, Malformed, NoRoom, BadPiece, ClosedTime, BadPlan, BadCell, HeldAlready, NotOnSheet}
 use Rattle.refusals.specs.declared.Answer.{Answer}
 use Rattle.refusals.specs.declared.Answer.the-variants.{Done, Refused}
 use Rattle.refusals.specs.Refusals.{refusalNumber, answerNumber, firstApplicable, accepted, Rows}
@@ -21,9 +21,9 @@ byNumber =
     BrokenLog
     ∷ BadSpan
     ∷ BadPower
-    ∷ SharedMinute
+    ∷ Clash
     ∷ FullLog
-    ∷ NoSuchStart
+    ∷ NoSuchEntry
     ∷ BadStretch
     ∷ BadBook
     ∷ BadYear
@@ -36,6 +36,8 @@ byNumber =
     ∷ ClosedTime
     ∷ BadPlan
     ∷ BadCell
+    ∷ HeldAlready
+    ∷ NotOnSheet
     ∷ []
 
 named : ℕ → Refusal
@@ -47,9 +49,9 @@ unfolding named byNumber
 named-number BrokenLog = refl
 named-number BadSpan = refl
 named-number BadPower = refl
-named-number SharedMinute = refl
+named-number Clash = refl
 named-number FullLog = refl
-named-number NoSuchStart = refl
+named-number NoSuchEntry = refl
 named-number BadStretch = refl
 named-number BadBook = refl
 named-number BadYear = refl
@@ -62,6 +64,8 @@ named-number BadPiece = refl
 named-number ClosedTime = refl
 named-number BadPlan = refl
 named-number BadCell = refl
+named-number HeldAlready = refl
+named-number NotOnSheet = refl
 
 pub same-refusal : (r s : Refusal) → refusalNumber r ≡ refusalNumber s → r ≡ s
 same-refusal r s e = sym (named-number r) ∙ ap named e ∙ named-number s
@@ -70,9 +74,9 @@ pub never-zero : (r : Refusal) → 0 < refusalNumber r
 never-zero BrokenLog = omega arith
 never-zero BadSpan = omega arith
 never-zero BadPower = omega arith
-never-zero SharedMinute = omega arith
+never-zero Clash = omega arith
 never-zero FullLog = omega arith
-never-zero NoSuchStart = omega arith
+never-zero NoSuchEntry = omega arith
 never-zero BadStretch = omega arith
 never-zero BadBook = omega arith
 never-zero BadYear = omega arith
@@ -85,6 +89,8 @@ never-zero BadPiece = omega arith
 never-zero ClosedTime = omega arith
 never-zero BadPlan = omega arith
 never-zero BadCell = omega arith
+never-zero HeldAlready = omega arith
+never-zero NotOnSheet = omega arith
 
 pub same-answer : (a b : Answer) → answerNumber a ≡ answerNumber b → a ≡ b
 same-answer Done Done e = refl
@@ -151,8 +157,8 @@ module _ {A : Type 0} (rows : Rows) (n : ℕ) (given asked other : A) (number : 
   pub beside-refused : (n ≡ 0 → ⊥) → given ≡ other
   beside-refused z = is ∙ ap (λ (b : Bool). cond b asked other) (ne-eqb (firstApplicable rows) 0 (λ e. z (number ∙ e)))
 
--- the numbers in the order in which they are looked for: each of 1 to 14, 16 and 17 once
-pub turns : map refusalNumber inTurn ≡ 8 ∷ 1 ∷ 17 ∷ 2 ∷ 3 ∷ 16 ∷ 4 ∷ 5 ∷ 6 ∷ 7 ∷ 9 ∷ 12 ∷ 11 ∷ 10 ∷ 13 ∷ 14 ∷ []
+-- the numbers in the order in which they are looked for: each of 1 to 14, 16, 17, 19 and 20 once
+pub turns : map refusalNumber inTurn ≡ 8 ∷ 1 ∷ 17 ∷ 2 ∷ 3 ∷ 16 ∷ 19 ∷ 4 ∷ 5 ∷ 6 ∷ 7 ∷ 9 ∷ 12 ∷ 11 ∷ 10 ∷ 13 ∷ 20 ∷ 14 ∷ []
 turns = refl
 
 -- and on a day sheet

@@ -4,7 +4,7 @@ use mathlib.Core.List.{List, [], _∷_}
 use lib.Dec.{eqb}
 use Rattle.refusals.specs.Refusals.{Rows, refusalNumber}
 use Rattle.refusals.specs.declared.Refusal.{Refusal}
-use Rattle.refusals.specs.declared.Refusal.the-variants.{BrokenLog, BadSpan, BadPower, SharedMinute, FullLog, NoSuchStart, BadStretch, BadBook, BadYear, FloorAboveCap, TooLarge, BadPeriod, Malformed, NoRoom, BadPiece, ClosedTime, BadPlan, BadCell}
+use Rattle.refusals.specs.declared.Refusal.the-variants.{BrokenLog, BadSpan, BadPower, Clash, FullLog, NoSuchEntry, BadStretch, BadBook, BadYear, FloorAboveCap, TooLarge, BadPeriod, Malformed, NoRoom, BadPiece, ClosedTime, BadPlan, BadCell, HeldAlready, NotOnSheet}
 
 -- rule 12.2: the order in which they are looked for
 abbrev pub inTurn : List Refusal
@@ -15,15 +15,17 @@ inTurn =
     ∷ BadSpan
     ∷ BadPower
     ∷ ClosedTime
-    ∷ SharedMinute
+    ∷ HeldAlready
+    ∷ Clash
     ∷ FullLog
-    ∷ NoSuchStart
+    ∷ NoSuchEntry
     ∷ BadStretch
     ∷ BadYear
     ∷ BadPeriod
     ∷ TooLarge
     ∷ FloorAboveCap
     ∷ Malformed
+    ∷ NotOnSheet
     ∷ NoRoom
     ∷ []
 
@@ -33,7 +35,7 @@ inCells = BadCell ∷ []
 
 -- rules 12.2 and 15.4: on a day sheet the regime end first, and then each piece has an order of its own
 abbrev pub onSheets : List Refusal
-onSheets = BadBook ∷ Malformed ∷ BadPiece ∷ BadSpan ∷ BadPower ∷ SharedMinute ∷ FullLog ∷ []
+onSheets = BadBook ∷ Malformed ∷ BadPiece ∷ BadSpan ∷ BadPower ∷ Clash ∷ FullLog ∷ []
 
 -- the rows stand in the order of the list
 abbrev pub inOrderOf : List Refusal → Rows → Bool

@@ -4,7 +4,7 @@ use mathlib.Core.List.{List, [], _∷_}
 use Prim.Native.Nat.{ℕ}
 use lib.Dec.{eqb}
 use Rattle.refusals.specs.declared.Refusal.{Refusal}
-use Rattle.refusals.specs.declared.Refusal.the-variants.{BrokenLog, BadSpan, BadPower, SharedMinute, FullLog, NoSuchStart, BadStretch, BadBook, BadYear, FloorAboveCap, TooLarge, BadPeriod, Malformed, NoRoom, BadPiece, ClosedTime, BadPlan, BadCell}
+use Rattle.refusals.specs.declared.Refusal.the-variants.{BrokenLog, BadSpan, BadPower, Clash, FullLog, NoSuchEntry, BadStretch, BadBook, BadYear, FloorAboveCap, TooLarge, BadPeriod, Malformed, NoRoom, BadPiece, ClosedTime, BadPlan, BadCell, HeldAlready, NotOnSheet}
 use Rattle.refusals.specs.declared.Answer.{Answer}
 use Rattle.refusals.specs.declared.Answer.the-variants.{Done, Refused}
 use Rattle.refusals.specs.declared.Written.{Written}
@@ -15,9 +15,9 @@ abbrev pub refusalNumber : Refusal → ℕ
 refusalNumber BrokenLog = 1
 refusalNumber BadSpan = 2
 refusalNumber BadPower = 3
-refusalNumber SharedMinute = 4
+refusalNumber Clash = 4
 refusalNumber FullLog = 5
-refusalNumber NoSuchStart = 6
+refusalNumber NoSuchEntry = 6
 refusalNumber BadStretch = 7
 refusalNumber BadBook = 8
 refusalNumber BadYear = 9
@@ -30,6 +30,8 @@ refusalNumber BadPiece = 15
 refusalNumber ClosedTime = 16
 refusalNumber BadPlan = 17
 refusalNumber BadCell = 18
+refusalNumber HeldAlready = 19
+refusalNumber NotOnSheet = 20
 
 -- the number of an answer, 0 where the call is not refused
 abbrev pub answerNumber : Answer → ℕ

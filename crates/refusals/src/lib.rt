@@ -7,14 +7,14 @@ pub enum Refusal {
     BrokenLog,
     // 2: the entry is empty or runs backward, or past the regime end
     BadSpan,
-    // 3: its MW are not 1 to 1,000
+    // 3: its MW are not 1 to 1,000, or its cause is 0
     BadPower,
-    // 4: another entry covers one of its minutes
-    SharedMinute,
+    // 4: one of its minutes would lose more than rated capacity; on a day sheet, another entry covers one of them
+    Clash,
     // 5: the log is full
     FullLog,
-    // 6: there is no entry with that key
-    NoSuchStart,
+    // 6: there is no entry with that start and cause
+    NoSuchEntry,
     // 7: the stretch runs backward, or past the regime end
     BadStretch,
     // 8: the book or a regime end is out of range, or two regime ends differ
@@ -39,6 +39,10 @@ pub enum Refusal {
     BadPlan,
     // 18: a cell of a workbook is bad
     BadCell,
+    // 19: an entry with that start and cause is held already
+    HeldAlready,
+    // 20: an overlap, or a cause other than 1, which no day sheet shows
+    NotOnSheet,
 }
 
 // The answer of a call that gives nothing else.
@@ -62,9 +66,9 @@ impl Refusal {
             Refusal::BrokenLog => 1,
             Refusal::BadSpan => 2,
             Refusal::BadPower => 3,
-            Refusal::SharedMinute => 4,
+            Refusal::Clash => 4,
             Refusal::FullLog => 5,
-            Refusal::NoSuchStart => 6,
+            Refusal::NoSuchEntry => 6,
             Refusal::BadStretch => 7,
             Refusal::BadBook => 8,
             Refusal::BadYear => 9,
@@ -77,6 +81,8 @@ impl Refusal {
             Refusal::ClosedTime => 16,
             Refusal::BadPlan => 17,
             Refusal::BadCell => 18,
+            Refusal::HeldAlready => 19,
+            Refusal::NotOnSheet => 20,
         }
     }
 }

@@ -1,4 +1,5 @@
 // The calls on log, book and year, each with its answer.
+use super::fields::cause_at;
 use super::fields::entry_at;
 use super::fields::i64_at;
 use super::fields::period_at;
@@ -61,12 +62,13 @@ pub(crate) fn empty(s: &[u8]) -> Log {
 }
 
 pub(crate) fn enter(s: &[u8], log: Log) -> Log {
-    logged(outage::enter(log, entry_at(s, 0, 4, 8)))
+    logged(outage::enter(log, entry_at(s, 0, 4, 8, 10)))
 }
 
 pub(crate) fn cancel(s: &[u8], log: Log) -> Log {
     let key = Key {
         start: u32_at(s, 0),
+        cause: cause_at(s, 4, s.len()),
     };
     logged(outage::cancel(log, key))
 }

@@ -1,6 +1,6 @@
 // The table of calls, a line each, but for those that change the log, the book or the kept bytes, which `main` has. A call is
 // 100,000 times the field's tag and the length of its value: `4_00008` is tag 4 with 8 bytes. Where any length will do, 99,999
-// stands for it, which no field has.
+// stands for it, which no field has. Where a cause may be left out, a call has two lengths.
 use super::asking;
 use super::fields::KEPT;
 use super::fields::of_year;
@@ -44,7 +44,7 @@ fn fitting(call: u64, fits: bool) -> u64 {
 // The calls that set a part of the log, its closed minute where it is no other: the log after it.
 pub(crate) fn set_log(call: u64, s: &[u8], log: Log) -> Log {
     match call {
-        32_00012 => setting::slot(s, log),
+        32_00012 | 32_00013 => setting::slot(s, log),
         33_00012 => setting::count(s, log),
         _ => setting::closed(s, log),
     }
@@ -123,9 +123,9 @@ fn ask_of_value(call: u64, s: &[u8]) -> bool {
         15_00024 => asking::settle(s),
         16_00032 => asking::reconcile(s),
         26_00004 => sheets::minute(s),
-        27_00010 => sheets::outage(s),
-        64_00018 => plans::list(s),
-        67_00018 => plans::write(s),
+        27_00010 | 27_00011 => sheets::outage(s),
+        64_00018 | 64_00019 => plans::list(s),
+        67_00018 | 67_00019 => plans::write(s),
         68_00008 => workbooks::make(s),
         69_00048 => workbooks::gap(s),
         70_00224 => workbooks::export(s),

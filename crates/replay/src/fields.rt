@@ -13,6 +13,9 @@ pub(crate) const ROOM: usize = 65_535;
 // The most bytes that are kept, and that a call lends.
 pub(crate) const KEPT: usize = 262_144;
 
+// The cause that is meant where none is written.
+const LEFT_OUT: u8 = 1;
+
 // The next field of the script, its value at the front of the space. Its call is 100,000 times its tag and the length;
 // 0 where the field is cut, and where there is none END, which no field has: it is longer than any.
 pub(crate) struct Field {
@@ -48,12 +51,18 @@ pub(crate) fn period_at(s: &[u8], first: usize, last: usize) -> Period {
     }
 }
 
-// An entry: its start, its end and its MW from these places on.
-pub(crate) fn entry_at(s: &[u8], start: usize, end: usize, mw: usize) -> Entry {
+// The cause from `at` on, of what ends at `end`: where nothing stands between, it is left out and is 1.
+pub(crate) fn cause_at(s: &[u8], at: usize, end: usize) -> u8 {
+    if at < end { u8_at(s, at) } else { LEFT_OUT }
+}
+
+// An entry: its start, its end, its MW and its cause from these places on. The value may end before the cause.
+pub(crate) fn entry_at(s: &[u8], start: usize, end: usize, mw: usize, cause: usize) -> Entry {
     Entry {
         start: u32_at(s, start),
         end: u32_at(s, end),
         mw: u16_at(s, mw),
+        cause: cause_at(s, cause, s.len()),
     }
 }
 

@@ -71,17 +71,17 @@ fn carry_out(mut log: Log, mut book: Book, mut years: [Year; 5]) {
         let mut done = true;
         match call {
             1_00004 => log = asking::empty(s),
-            2_00010 => log = asking::enter(s, log),
-            3_00004 => log = asking::cancel(s, log),
+            2_00010 | 2_00011 => log = asking::enter(s, log),
+            3_00004 | 3_00005 => log = asking::cancel(s, log),
             23_99999 => log = sheets::read(s),
             24_00004 => log = sheets::read_kept(s, &kept, bytes),
             28_00004 => log = asking::close(s, log),
-            32_00012 | 33_00012 | 42_00004 => log = set_log(call, s, log),
+            32_00012 | 32_00013 | 33_00012 | 42_00004 => log = set_log(call, s, log),
             34_00062 => book = setting::book(s),
             39_00001 => log = setting::log_from(years[k]),
             40_99999 => bytes = keep(&mut kept, bytes, s),
             41_00000 => bytes = setting::forget(),
-            65_00014 => log = plans::enter(s, log),
+            65_00014 | 65_00015 => log = plans::enter(s, log),
             _ => {
                 done = ask(call, s, &kept, bytes, book, years, years[k], log);
                 if !done {

@@ -1,4 +1,5 @@
 // Plans listed, entered, read and written.
+use super::fields::cause_at;
 use super::fields::clipped;
 use super::fields::u16_at;
 use super::fields::u32_at;
@@ -13,8 +14,8 @@ use plan_message::read_plan;
 use plan_message::write_plan;
 ghost use Prim.Native.Nat.{_≤_};
 
-// A plan, from `at` on.
-fn plan_at(s: &[u8], at: usize) -> Plan
+// A plan from `at` on, which ends at `end`, with its cause or before it.
+fn plan_at(s: &[u8], at: usize, end: usize) -> Plan
     requires { ⌜ at ≤ 4 ⌝ }
 {
     Plan {
@@ -23,12 +24,13 @@ fn plan_at(s: &[u8], at: usize) -> Plan
         step: u16_at(s, at + 8),
         count: u16_at(s, at + 10),
         mw: u16_at(s, at + 12),
+        cause: cause_at(s, at + 14, end),
     }
 }
 
 // The outages of the plan behind the regime end.
 pub(crate) fn list(s: &[u8]) -> bool {
-    let listed = list_plan(u32_at(s, 0), plan_at(s, 4));
+    let listed = list_plan(u32_at(s, 0), plan_at(s, 4, s.len()));
     let answer = listed.answer;
     let entries = listed.entries;
     say::number(answer.number());
@@ -39,7 +41,7 @@ pub(crate) fn list(s: &[u8]) -> bool {
 }
 
 pub(crate) fn enter(s: &[u8], log: Log) -> Log {
-    let done = enter_plan(log, plan_at(s, 0));
+    let done = enter_plan(log, plan_at(s, 0, s.len()));
     let answer = done.answer;
     let log = done.log;
     say::number(answer.number());
@@ -61,6 +63,7 @@ pub(crate) fn read(s: &[u8]) -> bool {
     say::figure(plan.step as u64);
     say::figure(plan.count as u64);
     say::figure(plan.mw as u64);
+    say::figure(plan.cause as u64);
     say::end()
 }
 
@@ -70,9 +73,10 @@ fn written(plan: Plan, out: &mut [u8]) -> bool {
     returns::answer(done, out, false)
 }
 
-// A plan written into a buffer of the room asked for, and its sum said.
+// A plan written into a buffer of the room asked for behind it, and its sum said.
 pub(crate) fn write(s: &[u8]) -> bool {
     let mut space = returns::long_room();
-    let n = clipped(u32_at(s, 14) as usize, &space);
-    written(plan_at(s, 0), &mut space[..n])
+    let end = if s.len() < 19 { 14 } else { 15 };
+    let n = clipped(u32_at(s, end) as usize, &space);
+    written(plan_at(s, 0, end), &mut space[..n])
 }

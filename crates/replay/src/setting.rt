@@ -7,14 +7,25 @@ use super::fields::u32_at;
 use super::say;
 use codec::number;
 use levels::Book;
+use outage::Entry;
 use outage::Log;
 use year::Line;
 use year::Year;
 
+// What a slot is set to: where start, end and MW are 0 and the cause is left out, a zero slot.
+fn slot_at(s: &[u8]) -> Entry {
+    let e = entry_at(s, 2, 6, 10, 12);
+    if s.len() == 12 && (e.start == 0 && (e.end == 0 && e.mw == 0)) {
+        Entry::zero()
+    } else {
+        e
+    }
+}
+
 // A slot of the log.
 pub(crate) fn slot(s: &[u8], mut log: Log) -> Log {
     let i = (number(s, 0, 2) % 400) as usize;
-    let e = entry_at(s, 2, 6, 10);
+    let e = slot_at(s);
     log.entries[i] = e;
     say::set();
     log

@@ -66,5 +66,5 @@ pub(crate) fn minute(s: &[u8]) -> bool {
 
 // An outage as `oldsheet` prints it.
 pub(crate) fn outage(s: &[u8]) -> bool {
-    printed(print_outage(entry_at(s, 0, 4, 8)))
+    printed(print_outage(entry_at(s, 0, 4, 8, 10)))
 }

@@ -11,6 +11,7 @@ fn entry(e: Entry) {
     say::figure(e.start as u64);
     say::figure(e.end as u64);
     say::figure(e.mw as u64);
+    say::figure(e.cause as u64);
 }
 
 fn entries(log: Log) {

@@ -26,7 +26,10 @@ fn more_wide(sum: u64, x: u64) -> u64 {
 
 // An entry more.
 pub(crate) fn more_of_entry(sum: u64, e: Entry) -> u64 {
-    more(more(more(sum, e.start), e.end), e.mw as u32)
+    more(
+        more(more(more(sum, e.start), e.end), e.mw as u32),
+        e.cause as u32,
+    )
 }
 
 fn more_of_line(sum: u64, l: Line) -> u64 {

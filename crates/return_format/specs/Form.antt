@@ -11,7 +11,7 @@ use Rattle.outage.specs.Log.{slots, lastRegimeEnd, validEntries}
 use Rattle.year.specs.declared.Line.{Line}
 use Rattle.year.specs.Year.{goodLine, lineSlots}
 use Rattle.codec.specs.Format.{Value, num, int, pair, mapped, restricted, Item, tagged, Codec, one, opt, many, both}
-use Rattle.outage_field.specs.Field.{entryLayout}
+use Rattle.outage_field.specs.Field.{causedWhere}
 
 -- ---- values
 -- 01: the year number
@@ -53,7 +53,7 @@ lineLayout = mapped toLine fromLine (pair (num 1 0 255) (pair (num 1 0 255) (int
 abbrev pub lineValue : Value Line
 lineValue = restricted goodLine lineLayout
 
--- 07: an outage, which starts from a first minute on and before an end
+-- 07: an outage, with its cause where that is not 1, which starts from a first minute on and before an end
 abbrev pub startsBetween : ℕ → ℕ → Entry → Bool
 startsBetween first end e = leb first (e .start) && ltb (e .start) end
 
@@ -64,9 +64,6 @@ startsIn number e = startsBetween (yearStart number) (yearEnd number lastRegimeE
 -- rule 10.3: with those before it, it keeps every rule of a log
 abbrev pub mayFollow : ℕ → List Entry → Entry → Bool
 mayFollow number before e = startsIn number e && validEntries lastRegimeEnd (before ++ (e ∷ []))
-
-abbrev pub entryValue : ℕ → List Entry → Value Entry
-entryValue number before = restricted (mayFollow number before) entryLayout
 
 -- 08: the mark
 abbrev pub markValue : Value ℕ
@@ -81,7 +78,7 @@ abbrev pub lineItem : List Line → Item Line
 lineItem before = tagged 6 lineValue
 
 abbrev pub entryItem : ℕ → List Entry → Item Entry
-entryItem number before = tagged 7 (entryValue number before)
+entryItem number before = causedWhere (mayFollow number before) 7
 
 abbrev pub factors : ℕ → Codec (ℕ × ℕ)
 factors number = opt (tagged 5 (factorsValue number)) (leftOut number) (isLeftOut number)

@@ -13,8 +13,8 @@ use Rattle.year.specs.Year.{lineSlots, zeroLine}
 use Rattle.calendar.specs.Years.{goodYearNumber}
 use Rattle.codec.specs.Fields.{framed}
 use Rattle.codec.specs.Leaves.{Spells}
-use Rattle.codec.specs.Format.{Value, restricted, malformed, ReadAt, StoppedAt}
-use Rattle.outage_field.specs.Field.{entryLayout}
+use Rattle.codec.specs.Format.{Item, malformed, ReadAt, StoppedAt}
+use Rattle.outage_field.specs.Field.{causedWhere}
 use Rattle.return_format.specs.Form.{startsBetween, lines, outages, required, body}
 use Rattle.return_reading.specs.declared.fields.Three.{Three}
 use Rattle.return_reading.specs.declared.fields.LineAt.{LineAt}
@@ -43,8 +43,8 @@ pub record ThreeRead (s : List ℕ) (at tag a b c : ℕ) (r : Three) : Type 0 wh
   pub are : r .absent ≡ false → Spells s (at + 3) a (r .first) × Spells s (at + 3 + a) b (r .second) × Spells s (at + 3 + a + b) c (r .third)
 
 -- ---- an outage that starts from `first` on and before `end`
-abbrev pub entryBetween : ℕ → ℕ → Value Entry
-entryBetween first end = restricted (startsBetween first end) entryLayout
+abbrev pub entryBetween : ℕ → ℕ → Item Entry
+entryBetween first end = causedWhere (startsBetween first end) 7
 
 -- ---- the lines read from a place on stand in the first slots
 pub record LinesRead (s : List ℕ) (from : ℕ) (r : Lines) : Type 0 where

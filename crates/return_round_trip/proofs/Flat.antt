@@ -139,6 +139,21 @@ module _ (k : ℕ) (small : leb k 9 ≡ true) where
       let s = rising-many again f e w l r in
       rising-more (f a) (e a) (w a) (all-as (from k) (mayPrecede k) (map tagOf (map f l ++ fields)) (s .known) (λ t. repeats k t again)) s
 
+-- with its cause or without
+outage-field : (e : Entry) → (tagOf (outageField e) ≡ 7) × (isWhole (outageField e) ≡ true)
+unfolding isWhole spelled bytesOf outageField
+outage-field e = by (eqb (e .cause) 1)
+  where
+    span : List ℕ → List ℕ
+    span rest = bytesOf 4 (e .start) ++ (bytesOf 4 (e .end) ++ (bytesOf 2 (e .mw) ++ rest))
+
+    either : Bool → List ℕ
+    either b = cond b (7 ∷ 0 ∷ 10 ∷ span []) (7 ∷ 0 ∷ 11 ∷ span (bytesOf 1 (e .cause)))
+
+    by : (b : Bool) → (tagOf (either b) ≡ 7) × (isWhole (either b) ≡ true)
+    by true = (refl, refl)
+    by false = (refl, refl)
+
 rising : (y : Year) → Rising 1 (fieldsOf y)
 unfolding isWhole spelled bytesOf factorsField lineField outageField markField wpaField fieldsOf
 rising y =
@@ -148,7 +163,7 @@ rising y =
     (rising-field 4 refl (4 ∷ 0 ∷ 2 ∷ bytesOf 2 (y .aic)) refl refl
     (rising-present 5 refl (not (isLeftOut (y .number) (y .pyc, y .pyf))) (factorsField (y .pyc) (y .pyf)) refl refl
     (rising-many 6 refl refl lineField (λ l. refl) (λ l. refl) (take (y .«line_count») (y .lines))
-    (rising-many 7 refl refl outageField (λ e. refl) (λ e. refl) (logEntries (y .log))
+    (rising-many 7 refl refl outageField (λ e. outage-field e .0) (λ e. outage-field e .1) (logEntries (y .log))
     (rising-present 8 refl (y .exceptional) markField refl refl
     (rising-last 9 refl (not (isNone (y .wpa))) (wpaField (y .wpa)) refl refl))))))))
 

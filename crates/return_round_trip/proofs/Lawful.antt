@@ -19,9 +19,8 @@ use Rattle.codec.proofs.Formats.{Lawful, one-lawful, opt-lawful, both-lawful}
 use Rattle.codec.proofs.Places.{Placed, Numbered, one-placed, opt-placed, both-placed, one-numbered, opt-numbered, both-numbered}
 use Rattle.codec.proofs.Every.{many-lawful, many-placed, many-numbered}
 use Rattle.money.specs.Pounds.{isNone}
-use Rattle.outage_field.specs.Field.{entryLayout}
-use Rattle.outage_field.proofs.Laws.{layout-laws}
-use Rattle.return_format.specs.Form.{yearValue, pppiValue, rateValue, aicValue, leftOut, isLeftOut, factorsValue, toLine, fromLine, lineLayout, lineValue, mayFollow, entryValue, markValue, wpaValue, lineItem, entryItem, factors, mark, wpa, required, body, form}
+use Rattle.outage_field.proofs.Laws.{caused-laws}
+use Rattle.return_format.specs.Form.{yearValue, pppiValue, rateValue, aicValue, leftOut, isLeftOut, factorsValue, toLine, fromLine, lineLayout, lineValue, mayFollow, markValue, wpaValue, lineItem, entryItem, factors, mark, wpa, required, body, form}
 
 -- ---- values
 line-laws : ValueLaws lineValue
@@ -30,9 +29,6 @@ line-laws =
     (mapped-laws toLine fromLine (pair (num 1 0 255) (pair (num 1 0 255) (int 1000000000))) (λ l. refl) (λ p. refl)
     (pair-laws (num 1 0 255) (pair (num 1 0 255) (int 1000000000)) (num-laws 1 0 255 (omega arith))
     (pair-laws (num 1 0 255) (int 1000000000) (num-laws 1 0 255 (omega arith)) (int-laws 1000000000 (omega arith)))))
-
-entry-laws : (number : ℕ) (before : List Entry) → ValueLaws (entryValue number before)
-entry-laws number before = restricted-laws (mayFollow number before) entryLayout layout-laws
 
 pub factors-laws : (number : ℕ) → ValueLaws (factorsValue number)
 factors-laws number =
@@ -62,7 +58,7 @@ pub line-item : (before : List Line) → ItemLaws (lineItem before)
 line-item before = tagged-laws 6 lineValue (omega arith) line-laws
 
 pub entry-item : (number : ℕ) (before : List Entry) → ItemLaws (entryItem number before)
-entry-item number before = tagged-laws 7 (entryValue number before) (omega arith) (entry-laws number before)
+entry-item number before = caused-laws (mayFollow number before) 7
 
 mark-item : ItemLaws (tagged 8 markValue)
 mark-item = tagged-laws 8 markValue (omega arith) (num-laws 1 1 1 (omega arith))

@@ -21,7 +21,8 @@ use Rattle.codec.proofs.Message as Message
 use Rattle.codec.proofs.Values.{num-laws}
 use Rattle.codec.proofs.Lengths.{field-length, unless-length, texts-length, sizes-most}
 use Rattle.money.specs.Pounds.{isNone}
-use Rattle.outage_field.specs.Field.{entryBytes}
+use Rattle.outage_field.specs.Field.{mostEntryBytes}
+use Rattle.outage_field.proofs.Laws.{caused-most}
 use Rattle.return_format.specs.Form.{yearValue, pppiValue, rateValue, aicValue, isLeftOut, factorsValue, markValue, wpaValue, lineItem, entryItem, Parts, form}
 use Rattle.return_round_trip.specs.Flat.{longest}
 use Rattle.return_format.specs.Return.{yearOf, partsOf, mostBytes, Reading, whole, refused, readingOf, isRefused, yearIn, readRows, readYear, validYear, returnOf}
@@ -50,8 +51,8 @@ long p f =
     unless-length (isLeftOut (p .0 .0) c) (fieldOf 5 (factorsValue (p .0 .0)) c) 7 (λ e. field-length 5 (factorsValue (p .0 .0)) (factors-laws (p .0 .0)) c (or-second (isLeftOut (p .0 .0) c) _ (f .factored) e)) in
     let n6 : length (texts lineItem [] ls) ≤ 13 * length ls =
     omega (arith, texts-length lineItem line-item [] ls (f .lined), sizes-most lineItem 13 (λ b l. omega arith) [] ls) in
-    let n7 : length (texts (entryItem (p .0 .0)) [] es) ≤ entryBytes * length es =
-    omega (arith, texts-length (entryItem (p .0 .0)) (entry-item (p .0 .0)) [] es (f .logged), sizes-most (entryItem (p .0 .0)) entryBytes (λ b e. omega arith) [] es) in
+    let n7 : length (texts (entryItem (p .0 .0)) [] es) ≤ mostEntryBytes * length es =
+    omega (arith, texts-length (entryItem (p .0 .0)) (entry-item (p .0 .0)) [] es (f .logged), sizes-most (entryItem (p .0 .0)) mostEntryBytes (λ b e. caused-most e .1) [] es) in
     let n8 : length (unless (eqb m 0) (fieldOf 8 markValue m)) ≤ 4 =
     unless-length (eqb m 0) (fieldOf 8 markValue m) 4 (λ e. field-length 8 markValue (num-laws 1 1 1 (omega arith)) m (or-second (eqb m 0) _ (f .marked) e)) in
     let n9 : length (unless (isNone w) (fieldOf 9 wpaValue w)) ≤ 11 =
@@ -81,7 +82,7 @@ return-messages =
       back = λ y bs f. year-back y (f .valid) (f .row) (f .slotted);
     }
 
--- ---- a valid year, with its 64 line slots and 400 entry slots
+-- ---- a valid year, with its 64 line slots and its 400 entry slots
 module _ (y : Year) (row : length (y .lines) ≡ lineSlots) (slotted : length (y .log .entries) ≡ slots) (v : validYear y ≡ true) where
   pub fits : (length (returnOf y) ≤ longest) × (23 ≤ length (returnOf y))
   unfolding returnOf

@@ -10,11 +10,14 @@ use lib.IntN.{ℤ, natAbs}
 use lib.ListN.{length, take}
 use lib.Seq.{length-take-le, append-snoc}
 use Rattle.lists.specs.Lists.{all, padded}
+use Rattle.lists.proofs.Lists.{total-append}
 use Rattle.lists.proofs.Padded.{padded-front, padded-free, padded-back}
 use Rattle.lists.proofs.Tests.{and-left, and-right, and-made}
 use Rattle.entries.specs.declared.Entry.{Entry}
 use Rattle.outage.specs.Log.{slots, lastRegimeEnd, goodEntry, validEntries, rowOf, validLog, logEntries, logHolding}
-use Rattle.entries.proofs.Order.{KeepsRules, rules-say, rules-made, follows, follows-valid}
+use Rattle.entries.specs.Row.{ahead, inOrder, lostBy}
+use Rattle.entries.proofs.Keys.{order-first, order-rest}
+use Rattle.entries.proofs.Keeps.{KeepsRules, rules-say, rules-made}
 use Rattle.entries.proofs.Rows.{Valid, valid-says}
 use Rattle.outage.proofs.LogHolding.{log-entries-length, open-is, open-holds, log-holding-entries, log-holding-valid}
 use Rattle.year.specs.declared.Line.{Line}
@@ -23,9 +26,8 @@ use Rattle.year.specs.Year.{goodWpa, goodLine, isZeroLine, goodLines, goodYear,
 use Rattle.year.proofs.Says.{line-says, LinesSay, lines-say, YearSays, year-says}
 use Rattle.codec.specs.Format.{num, pair, allFine}
 use Rattle.money.specs.Pounds.{isNone}
-use Rattle.outage_field.specs.Field.{entryLayout}
-use Rattle.outage_field.proofs.Laws.{entry-fine}
-use Rattle.return_format.specs.Form.{yearValue, pppiValue, rateValue, aicValue, isLeftOut, factorsValue, lineLayout, lineValue, startsIn, mayFollow, entryValue, wpaValue, lineItem, entryItem, factors, lines, outages, mark, wpa, Parts, required, form}
+use Rattle.outage_field.proofs.Laws.{caused-fine, where-passes}
+use Rattle.return_format.specs.Form.{yearValue, pppiValue, rateValue, aicValue, isLeftOut, factorsValue, lineLayout, lineValue, startsIn, mayFollow, wpaValue, lineItem, entryItem, factors, lines, outages, mark, wpa, Parts, required, form}
 use Rattle.return_format.specs.Return.{yearOf, partsOf, logFits, writable, validYear}
 use Rattle.return_round_trip.proofs.Lawful.{none-is}
 
@@ -99,14 +101,23 @@ lines-good before (l ∷ ls) f =
 
 -- ---- outages
 -- the first of valid entries are valid
-follows-front : (re from : ℕ) (a b : List Entry) → follows re from (a ++ b) ≡ true → follows re from a ≡ true
-follows-front re from [] b f = refl
-follows-front re from (e ∷ a) b f =
-    let h = leb from (e .start) && goodEntry re e in
-    and-made (and-left h (follows re (e .end) (a ++ b)) f) (follows-front re (e .end) a b (and-right h (follows re (e .end) (a ++ b)) f))
+all-front : (p : Entry → Bool) (a b : List Entry) → all p (a ++ b) ≡ true → all p a ≡ true
+all-front p [] b h = refl
+all-front p (x ∷ a) b h = and-made (and-left (p x) (all p (a ++ b)) h) (all-front p a b (and-right (p x) (all p (a ++ b)) h))
+
+order-front : (a b : List Entry) → inOrder (a ++ b) ≡ true → inOrder a ≡ true
+order-front [] b h = refl
+order-front (x ∷ a) b h = and-made (all-front (ahead x) a b (order-first x (a ++ b) h)) (order-front a b (order-rest x (a ++ b) h))
 
 valid-front : (re : ℕ) (a b : List Entry) → validEntries re (a ++ b) ≡ true → validEntries re a ≡ true
-valid-front re a b v = sym (follows-valid re a) ∙ follows-front re 0 a b (follows-valid re (a ++ b) ∙ v)
+valid-front re a b v =
+    let k = rules-say re (a ++ b) v in
+    rules-made re a
+    (record {
+      good = all-front (goodEntry re) a b (k .good);
+      order = order-front a b (k .order);
+      rated = λ t. omega (arith, k .rated t, total-append (lostBy t) a b);
+    })
 
 module _ (number : ℕ) where
   entries-fine : (before es : List Entry) → all (startsIn number) es ≡ true → all (goodEntry lastRegimeEnd) es ≡ true → validEntries lastRegimeEnd (before ++ es) ≡ true → allFine (entryItem number) before es ≡ true
@@ -115,7 +126,7 @@ module _ (number : ℕ) where
   entries-fine before (e ∷ es) s g v =
       let w : validEntries lastRegimeEnd ((before ++ (e ∷ [])) ++ es) ≡ true = ap (validEntries lastRegimeEnd) (append-snoc before e es) ∙ v in
       and-made
-      (and-made (entry-fine lastRegimeEnd (omega arith) e (and-left (goodEntry lastRegimeEnd e) (all (goodEntry lastRegimeEnd) es) g))
+      (caused-fine (mayFollow number before) 7 lastRegimeEnd (omega arith) e (and-left (goodEntry lastRegimeEnd e) (all (goodEntry lastRegimeEnd) es) g)
       (and-made (and-left (startsIn number e) (all (startsIn number) es) s) (valid-front lastRegimeEnd (before ++ (e ∷ [])) es w)))
       (entries-fine (before ++ (e ∷ [])) es (and-right (startsIn number e) (all (startsIn number) es) s) (and-right (goodEntry lastRegimeEnd e) (all (goodEntry lastRegimeEnd) es) g) w)
 
@@ -123,10 +134,9 @@ module _ (number : ℕ) where
   unfolding allFine
   entries-good before [] f v = (refl, ap (validEntries lastRegimeEnd) (append-nil before) ∙ v)
   entries-good before (e ∷ es) f v =
-      let h = and-left (entryValue number before .fine e) (allFine (entryItem number) (before ++ (e ∷ [])) es) f in
-      let m = and-right (entryLayout .fine e) (mayFollow number before e) h in
+      let m = where-passes (mayFollow number before) 7 e (and-left (entryItem number before .fine e) (allFine (entryItem number) (before ++ (e ∷ [])) es) f) in
       let w = validEntries lastRegimeEnd (before ++ (e ∷ [])) in
-      let r = entries-good (before ++ (e ∷ [])) es (and-right (entryValue number before .fine e) (allFine (entryItem number) (before ++ (e ∷ [])) es) f) (and-right (startsIn number e) w m) in
+      let r = entries-good (before ++ (e ∷ [])) es (and-right (entryItem number before .fine e) (allFine (entryItem number) (before ++ (e ∷ [])) es) f) (and-right (startsIn number e) w m) in
       (and-made (and-left (startsIn number e) w m) (r .0), ap (validEntries lastRegimeEnd) (sym (append-snoc before e es)) ∙ r .1)
 
 -- ---- the other parts
@@ -279,7 +289,8 @@ module _ (p : Parts) (f : Fine p) where
   es = p .1 .1 .1 .0
 
   entered : (all (startsIn (p .0 .0)) es ≡ true) × (validEntries lastRegimeEnd es ≡ true)
-  entered = entries-good (p .0 .0) [] es (f .logged) refl
+  entered =
+      entries-good (p .0 .0) [] es (f .logged) (rules-made lastRegimeEnd [] (record { good = refl; order = refl; rated = λ t. omega arith }))
 
   lines-made : goodLines (padded lineSlots zeroLine ls) (length ls) ≡ true
   lines-made =

@@ -24,9 +24,11 @@ factorsField pyc pyf = 5 ∷ 0 ∷ 4 ∷ (bytesOf 2 pyc ++ bytesOf 2 pyf)
 unfoldable pub lineField : Line → List ℕ
 lineField l = 6 ∷ 0 ∷ 10 ∷ (bytesOf 1 (l .kind) ++ (bytesOf 1 (l .currency) ++ bytesOf 8 (ofZ w64 (l .amount))))
 
--- 07: an outage
+-- 07: an outage, and its cause where that is not 1
 unfoldable pub outageField : Entry → List ℕ
-outageField e = 7 ∷ 0 ∷ 10 ∷ (bytesOf 4 (e .start) ++ (bytesOf 4 (e .end) ++ bytesOf 2 (e .mw)))
+outageField e =
+    cond (eqb (e .cause) 1) (7 ∷ 0 ∷ 10 ∷ (bytesOf 4 (e .start) ++ (bytesOf 4 (e .end) ++ bytesOf 2 (e .mw))))
+    (7 ∷ 0 ∷ 11 ∷ (bytesOf 4 (e .start) ++ (bytesOf 4 (e .end) ++ (bytesOf 2 (e .mw) ++ bytesOf 1 (e .cause)))))
 
 -- 08: the mark
 unfoldable pub markField : List ℕ
@@ -72,4 +74,4 @@ pub record Ordered (fields : List (List ℕ)) : Type 0 where
 
 -- rule 10.6: the bytes of the longest valid return
 abbrev pub longest : ℕ
-longest = 6077
+longest = 6477

@@ -11,7 +11,7 @@ use Rattle.year.specs.Year.{lineSlots}
 use Rattle.codec.specs.Theorems as messages
 use Rattle.return_format.specs.Return.{validYear, returnOf}
 
--- bytes are the return of a valid year, which has its 64 line slots and 400 entry slots
+-- bytes are the return of a valid year, which has its 64 line slots and its 400 entry slots
 pub record IsReturnOf (y : Year) (bs : List ℕ) : Type 0 where
   pub row : length (y .lines) ≡ lineSlots
   pub slotted : length (y .log .entries) ≡ slots

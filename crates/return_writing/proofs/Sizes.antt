@@ -2,28 +2,33 @@
 use mathlib.Core.Path.{_≡_, refl, ap, ap₂, _∙_}
 use mathlib.Core.Bool.{Bool, true, false, cond}
 use mathlib.Core.List.{List, [], _∷_, _++_}
-use Prim.Native.Nat.{ℕ, _+_, _*_, _≤_}
+use Prim.Native.Nat.{ℕ, _+_, _*_, _≤_, _<_}
 use native.Mathlib.Omega.{arith}
 use lib.IntN.{ℤ}
-use lib.ListN.{length, take, length-append}
-use lib.Seq.{length-take-le}
+use native.Mathlib.Numerals.{add-one}
+use lib.ListN.{length, take, getD, length-append}
+use lib.Seq.{length-take-le, take-suc}
+use Rattle.lists.specs.Lists.{total}
+use Rattle.lists.proofs.Lists.{total-append}
 use Rattle.lists.proofs.Tests.{and-left, and-right}
 use Rattle.entries.specs.declared.Entry.{Entry}
-use Rattle.outage.specs.Log.{slots, logEntries, validLog}
+use Rattle.outage.specs.declared.Log.{Log}
+use Rattle.outage.specs.Log.{slots, zeroEntry, logEntries, validLog}
 use Rattle.outage.proofs.LogHolding.{valid-room}
 use Rattle.year.specs.declared.Line.{Line}
 use Rattle.year.specs.declared.Year.{Year}
 use Rattle.year.specs.Year.{goodYear, lineSlots}
 use Rattle.year.proofs.Says.{lines-say, year-says}
 use Rattle.codec.specs.Format.{fieldOf, texts, unless}
+use Rattle.codec.specs.Theorems.{sizes}
 use Rattle.codec.proofs.Numbers.{bytes-length}
 use Rattle.codec.proofs.Items.{length-head}
 use Rattle.codec.proofs.Lengths.{texts-size, sizes-same}
-use Rattle.outage_field.specs.Field.{entryLayout, entryBytes}
-use Rattle.outage_field.proofs.Laws.{entry-size}
-use Rattle.return_format.specs.Form.{factorsValue, markValue, wpaValue, lineValue, entryItem, lineItem, factors, mark, wpa, required, form}
+use Rattle.outage_field.specs.Field.{causedBytes, mostEntryBytes}
+use Rattle.outage_field.proofs.Laws.{caused-size, caused-most, where-text}
+use Rattle.return_format.specs.Form.{factorsValue, markValue, wpaValue, lineValue, mayFollow, entryItem, lineItem, factors, mark, wpa, required, form}
 use Rattle.return_format.specs.Return.{logFits, writable, returnOf, validYear}
-use Rattle.return_writing.specs.Written.{anyEntry, noEntries, noLines}
+use Rattle.return_writing.specs.Written.{anyEntry, outagesSize, noEntries, noLines}
 
 -- ---- the fields of a return
 pub line-size : (l : Line) → length (fieldOf 6 lineValue l) ≡ 13
@@ -57,9 +62,33 @@ mark-out e = rw e
 
 -- ---- a return is its required fields and the others
 entries-same : (number : ℕ) (before es : List Entry) → texts (entryItem number) before es ≡ texts anyEntry before es
-unfolding texts fieldOf
+unfolding texts
 entries-same number before [] = refl
-entries-same number before (e ∷ es) = ap (λ (bs : List ℕ). fieldOf 7 entryLayout e ++ bs) (entries-same number (before ++ (e ∷ [])) es)
+entries-same number before (e ∷ es) =
+    ap₂ (λ (a b : List ℕ). a ++ b) (where-text (mayFollow number before) 7 e) (entries-same number (before ++ (e ∷ [])) es)
+
+-- ---- outages one by one
+-- one more
+pub size-next : (row : List Entry) (i : ℕ) → i < length row → total causedBytes (take (i + 1) row) ≡ total causedBytes (take i row) + causedBytes (getD row i zeroEntry)
+size-next row i h =
+    ap (λ (n : ℕ). total causedBytes (take n row)) (add-one i)
+    ∙ ap (total causedBytes) (take-suc row i zeroEntry h)
+    ∙ total-append causedBytes (take i row) (getD row i zeroEntry ∷ [])
+    ∙ omega arith
+
+-- all of them
+pub size-all : (log : Log) (i : ℕ) → i ≡ log .count → total causedBytes (take i (log .entries)) ≡ outagesSize log
+size-all log i e = ap (λ (n : ℕ). total causedBytes (take n (log .entries))) e
+
+-- at most so many bytes
+pub size-most : (es : List Entry) → total causedBytes es ≤ mostEntryBytes * length es
+size-most [] = omega arith
+size-most (e ∷ es) = omega (arith, caused-most e .1, size-most es)
+
+outages-sized : (before es : List Entry) → sizes anyEntry before es ≡ total causedBytes es
+unfolding sizes
+outages-sized before [] = refl
+outages-sized before (e ∷ es) = ap (λ (n : ℕ). causedBytes e + n) (outages-sized (before ++ (e ∷ [])) es)
 
 -- the bytes of each
 module _ (y : Year) where
@@ -109,17 +138,19 @@ module _ (y : Year) (valid : validYear y ≡ true) where
         ∙ sizes-same lineItem 13 (λ before x. refl) noLines (take (y .«line_count») (y .lines))
         ∙ ap (λ (n : ℕ). 13 * n) (length-take-le (y .«line_count») (y .lines) (omega (arith, few-lines)))
 
-  module _ (e : length (y .log .entries) ≡ slots) where
-    outages-size : length (logged y) ≡ entryBytes * y .log .count
-    outages-size =
-        texts-size anyEntry (λ before x. entry-size 7 x) noEntries (logEntries (y .log))
-        ∙ sizes-same anyEntry entryBytes (λ before x. refl) noEntries (logEntries (y .log))
-        ∙ ap (λ (n : ℕ). entryBytes * n) (length-take-le (y .log .count) (y .log .entries) (omega (arith, few-outages)))
+  outages-size : length (logged y) ≡ outagesSize (y .log)
+  outages-size =
+      texts-size anyEntry (λ before x. caused-size 7 x) noEntries (logEntries (y .log)) ∙ outages-sized noEntries (logEntries (y .log))
+
+  -- and they take so many bytes at most
+  pub outages-most : length (y .log .entries) ≡ slots → outagesSize (y .log) ≤ mostEntryBytes * slots
+  outages-most e =
+      omega (arith, size-most (logEntries (y .log)), length-take-le (y .log .count) (y .log .entries) (omega (arith, few-outages)), few-outages)
 
   -- how many bytes its return has
-  pub year-size : length (y .lines) ≡ lineSlots → length (y .log .entries) ≡ slots
-      → length (returnOf y) ≡ 23 + (length (factored y) + (13 * y .«line_count» + (entryBytes * y .log .count + (length (marked y) + length (paid y)))))
-  year-size l e =
+  pub year-size : length (y .lines) ≡ lineSlots
+      → length (returnOf y) ≡ 23 + (length (factored y) + (13 * y .«line_count» + (outagesSize (y .log) + (length (marked y) + length (paid y)))))
+  year-size l =
       ap length (parts-of y)
       ∙ length-append (headed y) (factored y ++ (lined y ++ (logged y ++ (marked y ++ paid y))))
       ∙ ap₂ (λ (m n : ℕ). m + n) (headed-size y)
@@ -127,4 +158,4 @@ module _ (y : Year) (valid : validYear y ≡ true) where
       ∙ ap (λ (n : ℕ). length (factored y) + n)
       (length-append (lined y) (logged y ++ (marked y ++ paid y))
       ∙ ap₂ (λ (m n : ℕ). m + n) (lines-size l)
-      (length-append (logged y) (marked y ++ paid y) ∙ ap₂ (λ (m n : ℕ). m + n) (outages-size e) (length-append (marked y) (paid y)))))
+      (length-append (logged y) (marked y ++ paid y) ∙ ap₂ (λ (m n : ℕ). m + n) outages-size (length-append (marked y) (paid y)))))

@@ -5,15 +5,17 @@ use mathlib.Core.Path.{_≡_}
 use Prim.Native.Nat.{ℕ, _+_}
 use lib.IntN.{ℤ}
 use lib.ListN.{length}
+use Rattle.lists.specs.Lists.{total}
 use Rattle.refusals.specs.Refusals.{Rows, firstApplicable, writtenNumber, lengthFigure}
 use Rattle.refusals.specs.declared.Refusal.the-variants.{BrokenLog, BadYear}
 use Rattle.refusals.specs.declared.Written.{Written}
 use Rattle.entries.specs.declared.Entry.{Entry}
-use Rattle.outage.specs.Log.{validLog}
+use Rattle.outage.specs.declared.Log.{Log}
+use Rattle.outage.specs.Log.{logEntries, validLog}
 use Rattle.year.specs.declared.Line.{Line}
 use Rattle.year.specs.declared.Year.{Year}
-use Rattle.codec.specs.Format.{Item, tagged}
-use Rattle.outage_field.specs.Field.{entryLayout}
+use Rattle.codec.specs.Format.{Item}
+use Rattle.outage_field.specs.Field.{causedItem, causedBytes}
 use Rattle.return_format.specs.Form.{factors, mark, wpa}
 use Rattle.return_format.specs.Return.{writable, writeRows, writtenLength, writtenBuffer}
 
@@ -33,7 +35,11 @@ restSize number pyc pyf exceptional paid =
 
 -- an outage's field, in whatever year and after whatever others
 abbrev pub anyEntry : List Entry → Item Entry
-anyEntry before = tagged 7 entryLayout
+anyEntry before = causedItem 7
+
+-- how many bytes those of a log take
+abbrev pub outagesSize : Log → ℕ
+outagesSize log = total causedBytes (logEntries log)
 
 -- none of them
 abbrev pub noLines : List Line

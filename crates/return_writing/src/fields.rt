@@ -4,7 +4,6 @@ use codec::put_head;
 use codec::put_number;
 use codec::unsigned;
 use money::magnitude;
-use outage_field::FoundEntry;
 use return_format::Factors;
 use return_format::Return;
 ghost use mathlib.Core.Path.{_≡_};
@@ -14,7 +13,7 @@ ghost use lib.ListN.{length};
 ghost use Rattle.outage.specs.Log.{slots};
 ghost use Rattle.year.specs.Year.{lineSlots};
 ghost use Rattle.codec.specs.Buffers.{Wrote};
-ghost use Rattle.outage_field.specs.Field.{entryBytes};
+ghost use Rattle.outage_field.specs.Field.{mostEntryBytes};
 ghost use Rattle.return_format.specs.Form.{factors, mark, wpa};
 ghost use Rattle.return_writing.specs.Written.{restSize};
 
@@ -72,7 +71,7 @@ fn size_of_rest(year: u8, pyc: u16, pyf: u16, exceptional: bool, paid: i64) -> u
     n
 }
 
-// How many bytes a return has with so many lines and outages.
+// How many bytes a return has with so many lines, and outages that take so many.
 pub(crate) fn size_of(
     year: u8,
     pyc: u16,
@@ -82,10 +81,8 @@ pub(crate) fn size_of(
     lines: usize,
     outages: usize,
 ) -> usize
-    requires { ⌜ (lines ≤ lineSlots) × (outages ≤ slots) ⌝ }
-    ensures { λ r. ⌜ r ≡ 23 + (13 * lines + (entryBytes * outages + restSize year pyc pyf exceptional paid)) ⌝ }
+    requires { ⌜ (lines ≤ lineSlots) × (outages ≤ mostEntryBytes * slots) ⌝ }
+    ensures { λ r. ⌜ r ≡ 23 + (13 * lines + (outages + restSize year pyc pyf exceptional paid)) ⌝ }
 {
-    23
-        + (13 * lines
-            + (FoundEntry::BYTES * outages + size_of_rest(year, pyc, pyf, exceptional, paid)))
+    23 + (13 * lines + (outages + size_of_rest(year, pyc, pyf, exceptional, paid)))
 }

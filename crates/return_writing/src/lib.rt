@@ -15,6 +15,7 @@ use refusals::Written;
 use return_format::Return;
 use rows::put_lines;
 use rows::put_outages;
+use rows::size_of_outages;
 use year::Year;
 ghost use mathlib.Core.Path.{_≡_};
 ghost use mathlib.Core.Bool.{true};
@@ -59,6 +60,8 @@ pub fn write_return(y: Year, out: &mut [u8]) -> Written
     if let Answer::Refused(why) = answer {
         return Written::Refused(why);
     }
+    let log = y.log;
+    let outages = size_of_outages(log);
     let size = size_of(
         y.number,
         y.pyc,
@@ -66,7 +69,7 @@ pub fn write_return(y: Year, out: &mut [u8]) -> Written
         y.exceptional,
         y.wpa,
         y.line_count,
-        y.log.count,
+        outages,
     );
     if out.len() < size {
         return Written::Refused(Refusal::NoRoom);

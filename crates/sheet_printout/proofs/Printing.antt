@@ -1,12 +1,12 @@
 -- What is printed has room; and what a printing and a refusal give. Assumes nothing.
 use mathlib.Core.Path.{_≡_, refl, sym, ap, _∙_}
 use mathlib.Core.Bool.{Bool, true, false, cond, _||_}
-use mathlib.Core.List.{List, [], _∷_}
+use mathlib.Core.List.{List, [], _∷_, _++_}
 use mathlib.Core.Logic.{⊎-elim}
-use Prim.Native.Nat.{ℕ, zero, suc, _≤_, _<_, _/_}
+use Prim.Native.Nat.{ℕ, zero, suc, _+_, _-_, _≤_, _<_, _/_, _%_, _^_}
 use native.Mathlib.Omega.{arith}
-use borrow.Author.Tests.{lt-ltb, le-ltb}
-use lib.Dec.{ltb}
+use borrow.Author.Tests.{lt-ltb, le-ltb, eq-eqb, ne-eqb}
+use lib.Dec.{ltb, eqb}
 use lib.ListN.{length, length-append}
 use Rattle.lists.proofs.Tests.{le-or-lt}
 use Rattle.refusals.specs.declared.Refusal.the-variants.{BadStretch}
@@ -18,24 +18,14 @@ use Rattle.refusals.proofs.Laws.{same-answer}
 use Rattle.entries.specs.declared.Entry.{Entry}
 use Rattle.entries.specs.Row.{lastRegimeEnd}
 use Rattle.text.specs.declared.Text.{Text}
-use Rattle.text.specs.Text.{digits, pushed, room, textOf}
-use Rattle.text.proofs.Laws.{digits-few, pushed-text}
+use Rattle.text.specs.Text.{decimal, digits, pushed, room, textOf}
+use Rattle.text.proofs.Laws.{digits-few, digits-most, digits-one, digits-more, pushed-text}
 use Rattle.sheet_printout.specs.declared.Printed.{Printed}
-use Rattle.sheet_printout.specs.Dates.{dateOf, momentOf, outageLine, timeOf, yearOn}
+use Rattle.sheet_printout.specs.Dates.{dateOf, momentOf, namedCause, outageLine, timeOf, yearOn}
 use Rattle.sheet_printout.specs.Printout.{nothingPrinted}
 use Rattle.sheet_printout.proofs.Dates.{right-date}
 
 -- ---- there is room
--- at most k digits are at most k bytes
-digits-most : (k n : ℕ) → length (digits k n) ≤ k
-unfolding digits
-digits-most zero n = omega arith
-digits-most (suc k) n =
-    ⊎-elim
-    (λ (l : 10 ≤ n). rw (le-ltb n 10 l, length-append) (omega (arith, digits-most k (n / 10))))
-    (λ (l : n < 10). rw (lt-ltb n 10 l) (omega arith))
-    (le-or-lt 10 n)
-
 moment-room : (minute : ℕ) → minute ≤ lastRegimeEnd → length (momentOf minute) ≤ 16
 unfolding momentOf dateOf timeOf
 moment-room minute h =
@@ -44,10 +34,42 @@ moment-room minute h =
 pub minute-room : (minute : ℕ) → minute ≤ lastRegimeEnd → length (momentOf minute) ≤ room
 minute-room minute h = omega (arith, moment-room minute h)
 
+cause-room : (cause : ℕ) → length (namedCause cause) ≤ 4
+unfolding namedCause
+cause-room cause = by (eqb cause 1)
+  where
+    by : (b : Bool) → length (cond b [] (32 ∷ digits 3 cause)) ≤ 4
+    by true = omega arith
+    by false = omega (arith, digits-most 3 cause)
+
 pub line-room : (e : Entry) → e .start ≤ lastRegimeEnd → e .end ≤ lastRegimeEnd → length (outageLine e) ≤ room
 unfolding outageLine
 line-room e h k =
-    simp length-append (omega (arith, moment-room (e .start) h, moment-room (e .end) k, digits-most 20 (e .mw)))
+    simp length-append (omega (arith, moment-room (e .start) h, moment-room (e .end) k, digits-most 20 (e .mw), cause-room (e .cause)))
+
+-- ---- a number of few digits has the same ones where more are allowed
+same-digits : (j k n : ℕ) → n < 10 ^ suc j → suc j ≤ k → digits k n ≡ digits (suc j) n
+same-digits zero k n h w = digits-one k n (λ z. omega arith) (omega arith) ∙ sym (digits-one 1 n (λ z. omega arith) (omega arith))
+same-digits (suc j) k n h w =
+    ⊎-elim
+    (λ (l : 10 ≤ n).
+    let r : suc (suc j) - 1 ≡ suc j = omega arith in
+    digits-more k n (λ z. omega arith) l
+    ∙ ap (λ (l : List ℕ). l ++ ((48 + n % 10) ∷ [])) (same-digits j (k - 1) (n / 10) (omega arith) (omega arith) ∙ sym (ap (λ (i : ℕ). digits i (n / 10)) r))
+    ∙ sym (digits-more (suc (suc j)) n (λ z. omega arith) l))
+    (λ (l : n < 10). digits-one k n (λ z. omega arith) l ∙ sym (digits-one (suc (suc j)) n (λ z. omega arith) l))
+    (le-or-lt 10 n)
+
+-- ---- what names a cause
+module _ (t : Text) (cause : ℕ) where
+  -- 1 is not named
+  pub first-cause : cause ≡ 1 → t ≡ pushed t (namedCause cause)
+  unfolding namedCause pushed
+  first-cause h = rw (eq-eqb cause 1 h) refl
+
+  pub other-cause : (cause ≡ 1 → ⊥) → cause < 256 → 32 ∷ decimal cause ≡ namedCause cause
+  unfolding namedCause
+  other-cause h w = rw (ne-eqb cause 1 h) (ap (λ (l : List ℕ). 32 ∷ l) (same-digits 2 20 cause (omega arith) (omega arith)))
 
 -- ---- whether a minute of an outage is past the last regime end
 abbrev pub pastEnd : Entry → Bool

@@ -6,7 +6,7 @@ use lib.Dec.{eqb, leb}
 use Rattle.lists.specs.Lists.{sumFrom}
 use Rattle.calendar.specs.Years.{isLeap, daysTo}
 use Rattle.entries.specs.declared.Entry.{Entry}
-use Rattle.text.specs.Text.{decimal}
+use Rattle.text.specs.Text.{decimal, digits}
 
 -- how many of f 1 to f n are at most x
 unfoldable pub reached : (ℕ → ℕ) → ℕ → ℕ → ℕ
@@ -72,6 +72,10 @@ timeOf minute = twoDigits (hourOn minute) ++ (58 ∷ twoDigits (minuteOn minute)
 unfoldable pub momentOf : ℕ → List ℕ
 momentOf minute = dateOf minute ++ (32 ∷ timeOf minute)
 
--- rule 16.2: start, end and MW, as `2024-03-30 23:30 2024-03-31 01:30 500`, and a newline
+-- rule 16.2: the cause behind a space, where it is not 1; a number of 8 bits has at most 3 digits
+unfoldable pub namedCause : ℕ → List ℕ
+namedCause cause = cond (eqb cause 1) [] (32 ∷ digits 3 cause)
+
+-- rule 16.2: start, end, MW and cause, as `2024-03-30 23:30 2024-03-31 01:30 500 2`, and a newline
 unfoldable pub outageLine : Entry → List ℕ
-outageLine e = momentOf (e .start) ++ (32 ∷ momentOf (e .end) ++ (32 ∷ decimal (e .mw) ++ (10 ∷ [])))
+outageLine e = momentOf (e .start) ++ (32 ∷ momentOf (e .end) ++ (32 ∷ decimal (e .mw) ++ (namedCause (e .cause) ++ (10 ∷ []))))

@@ -13,7 +13,7 @@ ghost use Prim.Native.Nat.{_<_, _≤_};
 ghost use Rattle.calendar.specs.Years.{daysIn};
 ghost use Rattle.entries.specs.Row.{lastRegimeEnd};
 ghost use Rattle.text.specs.Text.{pushed, textOf};
-ghost use Rattle.sheet_printout.specs.Dates.{dateOf, dayInYear, dayOn, momentOf, monthDays, monthOn, outageLine, timeOf, twoDigits, yearOn};
+ghost use Rattle.sheet_printout.specs.Dates.{dateOf, dayInYear, dayOn, momentOf, monthDays, monthOn, namedCause, outageLine, timeOf, twoDigits, yearOn};
 ghost use Rattle.sheet_printout.specs.Printout.{nothingPrinted, PrintMinuteGives, PrintOutageGives};
 
 const MINUTES_A_DAY: u32 = 1440;
@@ -22,6 +22,9 @@ const MINUTES_A_DAY: u32 = 1440;
 const FIRST_CALENDAR_YEAR: u32 = 2019;
 
 const DAYS_BEFORE: u32 = 30;
+
+// The cause that a line leaves out: rule 16.2.
+const UNNAMED_CAUSE: u8 = 1;
 
 // What is printed: an empty text beside a refusal.
 pub struct Printed {
@@ -138,6 +141,17 @@ fn push_moment(t: Text, minute: u32) -> Text
     push_time(after_date, minute)
 }
 
+// The cause behind a space, where it is not 1: rule 16.2.
+fn push_cause(t: Text, cause: u8) -> Text
+    ensures { λ r. ⌜ r ≡ pushed t (namedCause cause) ⌝ }
+{
+    if cause == UNNAMED_CAUSE {
+        return t;
+    }
+    let after_mw = push(t, b' ');
+    push_decimal(after_mw, cause as u64)
+}
+
 // The line of an outage: rule 16.2.
 fn outage_line(e: Entry) -> Text
     requires { ⌜ (e .start ≤ lastRegimeEnd) × (e .end ≤ lastRegimeEnd) ⌝ }
@@ -148,7 +162,8 @@ fn outage_line(e: Entry) -> Text
     let end = push_moment(after_start, e.end);
     let after_end = push(end, b' ');
     let mw = push_decimal(after_end, e.mw as u64);
-    push(mw, b'\n')
+    let whole = push_cause(mw, e.cause);
+    push(whole, b'\n')
 }
 
 // The refusal of a minute past the last regime end: rule 16.3.
@@ -174,8 +189,8 @@ pub fn print_minute(minute: u32) -> Printed
     }
 }
 
-// An outage as a line, as `2024-03-30 23:30 2024-03-31 01:30 500` and a newline; where it starts or ends past
-// 13,632,480 it is 7: rules 16.2 and 16.3.
+// An outage as a line, as `2024-03-30 23:30 2024-03-31 01:30 500` and a newline, and with a cause other than 1 as
+// `2024-03-30 23:30 2024-03-31 01:30 500 2`; where it starts or ends past 13,632,480 it is 7: rules 16.2 and 16.3.
 pub fn print_outage(e: Entry) -> Printed
     ensures { λ r. ⌜ PrintOutageGives e r ⌝ }
 {

@@ -25,7 +25,7 @@ use Rattle.sheet_format.specs.Pieces.{Piece, meant}
 use Rattle.sheet_format.specs.Rule.{pieceNumber}
 use Rattle.sheet_format.specs.Sheet.{pieceItem, sheetForm, logMeant, sheetReading}
 use Rattle.sheet_format.proofs.Kept.{Kept, none-kept, piece-fine, one-kept}
-use Rattle.sheet_format.proofs.Looks.{item-laws, piece-size, look-marked}
+use Rattle.sheet_format.proofs.Looks.{item-laws, piece-size, look-marked, look-cause}
 use Rattle.sheet_round_trip.specs.Sheets.{mostPieces, longestSheet}
 use Rattle.sheet_round_trip.proofs.Pieces.{few-pieces}
 
@@ -87,7 +87,7 @@ module _ (regimeEnd : ℕ) (most : regimeEnd ≤ lastRegimeEnd) where
       let s : pieceItem before .size p ≡ 13 = piece-size before p in
       let d : drop 13 (w ++ x) ≡ drop 13 w ++ x = drop-append-le 13 w x h in
       let g = same-scan n m (before ++ (p ∷ [])) (drop 13 w) x (omega (arith, length-drop 13 w)) (rw (length-append (drop 13 w) x) (omega (arith, length-drop 13 w, length-append w x)))
-      (one-kept k p (piece-fine regimeEnd before p z) (look-marked w p e)) (rw (length-append before (p ∷ [])) (omega (arith, length-drop 13 w, kept-few before k))) in
+      (one-kept k p (piece-fine regimeEnd before p (look-cause w p e) z) (look-marked w p e)) (rw (length-append before (p ∷ [])) (omega (arith, length-drop 13 w, kept-few before k))) in
       rw (s, d) g) (pieceItem before .look w) refl)
 
   same-finish : (n : ℕ) (x : List ℕ) (short long : Res (List Piece)) → Same x short long → finish (logMeant regimeEnd) n short ≡ finish (logMeant regimeEnd) (n + length x) long

@@ -10,7 +10,7 @@ use borrow.Author.Tests.{eqb-false}
 use lib.Dec.{eqb, ltb}
 use lib.ListN.{length}
 use Rattle.lists.specs.Lists.{any}
-use Rattle.entries.specs.Row.{goodSpan, goodPower, sharesMinute}
+use Rattle.entries.specs.Row.{goodSpan, goodLoss}
 use Rattle.outage.specs.declared.Log.{Log}
 use Rattle.outage.specs.Log.{slots, goodRegimeEnd}
 use Rattle.outage.proofs.LogHolding.{open-is}
@@ -24,6 +24,7 @@ use Rattle.codec.proofs.Shapes.{two-tags-placed}
 use Rattle.outage_field.specs.Field.{entryLayout}
 use Rattle.outage_field.proofs.Laws.{layout-laws}
 use Rattle.sheet_format.specs.Pieces.{Piece, meant}
+use Rattle.sheet_format.specs.Shown.{sharesMinute}
 use Rattle.sheet_format.specs.Rule.{fits, pieceNumber}
 use Rattle.sheet_format.specs.Sheet.{pieceItem, sheetForm, logMeant, sheetReading}
 use Rattle.sheet_format.proofs.Looks.{item-laws}
@@ -37,7 +38,7 @@ NotOf n = eqb n 13 ≡ false → eqb n 15 ≡ false → eqb n 2 ≡ false → eq
 piece-numbers : (regimeEnd : ℕ) (before : List Piece) (p : Piece) (k : ℕ) → pieceNumber regimeEnd before p ≡ suc k → NotOf (suc k)
 unfolding pieceNumber NotOf
 piece-numbers regimeEnd before p k e =
-    by (not (fits before p)) (not (goodSpan regimeEnd (p .0))) (not (goodPower (p .0))) (any (sharesMinute (p .0)) (meant before)) (ltb slots (length (meant (before ++ (p ∷ []))))) e
+    by (not (fits before p)) (not (goodSpan regimeEnd (p .0))) (not (goodLoss (p .0))) (any (sharesMinute (p .0)) (meant before)) (ltb slots (length (meant (before ++ (p ∷ []))))) e
   where
     is : (n : ℕ) → n ≡ suc k → eqb (suc k) n ≡ false → ⊥
     is n h f = eqb-false (suc k) n f (sym h)
@@ -70,7 +71,7 @@ module _ (regimeEnd : ℕ) (good : goodRegimeEnd regimeEnd ≡ true) where
 
   -- the sheet of a valid log is read as that log
   pub sheet-read : (log : Log) (bs : List ℕ) → IsSheetOf regimeEnd log bs → sheetReading regimeEnd bs ≡ whole log
-  sheet-read log bs s = ap (sheetReading regimeEnd) (sym (s .is)) ∙ written-read regimeEnd good log (s .slotted) (s .end) (s .valid) ∙ ap whole (open-is log (s .all-open))
+  sheet-read log bs s = ap (sheetReading regimeEnd) (sym (s .is)) ∙ written-read regimeEnd good log (s .slotted) (s .end) (s .valid) (s .shown) ∙ ap whole (open-is log (s .all-open))
 
   -- two valid logs with the same sheet are one
   pub same-bytes : (x y : Log) (bs : List ℕ) → IsSheetOf regimeEnd x bs → IsSheetOf regimeEnd y bs → x ≡ y

@@ -6,17 +6,19 @@ use mathlib.Core.Path.{_≡_}
 use Prim.Native.Nat.{ℕ, _*_}
 use lib.ListN.{length}
 use Rattle.outage.specs.declared.Log.{Log}
-use Rattle.outage.specs.Log.{slots, validLog}
+use Rattle.outage.specs.Log.{slots, logEntries, validLog}
 use Rattle.codec.specs.Theorems as messages
 use Rattle.outage_field.specs.Field.{entryBytes}
+use Rattle.sheet_format.specs.Shown.{onSheet}
 use Rattle.sheet_format.specs.Sheet.{sheetOf}
 
--- bytes are the sheet of a valid log to this regime end, all of it open, which has its 400 slots
+-- bytes are the sheet of a valid log to this regime end, all of it open, which has its 400 slots and entries that a sheet shows
 pub record IsSheetOf (regimeEnd : ℕ) (log : Log) (bs : List ℕ) : Type 0 where
   pub slotted : length (log .entries) ≡ slots
   pub end : log .«regime_end» ≡ regimeEnd
   pub all-open : log .closed ≡ 0
   pub valid : validLog log ≡ true
+  pub shown : onSheet (logEntries log) ≡ true
   pub is : sheetOf log ≡ bs
 
 -- some valid log to this regime end has them for its sheet

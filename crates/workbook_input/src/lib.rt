@@ -1,17 +1,17 @@
 // The input of `workbook`: two days and the five returns of a period in, the amounts of its workbook out. Rules, section 20.
 mod amounts;
+mod logging;
 mod returns;
-mod running;
 
 use amounts::amounts_of;
 use assessment::assess_period;
 use balances::Assessment;
 use codec::number;
 use levels::Book;
+use logging::running_log;
 use refusals::Answer;
 use refusals::Refusal;
 use returns::read_years;
-use running::running_log;
 ghost use mathlib.Core.Path.{_≡_};
 ghost use Rattle.workbook_input.specs.Calls.{ReadWorkbookGives};
 ghost use Rattle.workbook_input.specs.Steps.{inputRefused};

@@ -12,8 +12,16 @@ impl Generator {
     pub fn any_work(&mut self) {
         for _ in 0..60 {
             let call = self.any_call();
-            self.call(call);
+            self.call_or_spell(call);
         }
+    }
+
+    /// A call, its cause now and then spelled where it may be left out.
+    pub fn call_or_spell(&mut self, mut call: Call) {
+        if let Some(spelled) = call.spells() {
+            *spelled |= self.random.one_in(3);
+        }
+        self.call(call);
     }
 
     fn any_u32(&mut self) -> u32 {
@@ -59,7 +67,16 @@ impl Generator {
     }
 
     fn any_outage(&mut self) -> Slot {
-        Slot { start: self.any_u32(), end: self.any_u32(), mw: self.any_u16() }
+        let (start, end, mw) = (self.any_u32(), self.any_u32(), self.any_u16());
+        Slot { start, end, mw, cause: self.any_cause() }
+    }
+
+    fn any_cause(&mut self) -> u8 {
+        if self.random.one_in(2) {
+            1
+        } else {
+            self.any_u8()
+        }
     }
 
     fn any_period(&mut self) -> Period {
@@ -123,8 +140,8 @@ impl Generator {
         };
         match self.random.below(50) {
             0 => Call::Empty { regime_end: self.any_u32() },
-            1 => Call::Enter { outage: self.any_outage() },
-            2 => Call::Cancel { start: self.any_u32() },
+            1 => Call::enter(self.any_outage()),
+            2 => Call::cancel(self.any_u32(), self.any_cause()),
             3 => Call::Lost { a: self.any_u32(), b: self.any_u32() },
             4 => Call::Minutes { year, regime_end: self.any_u32() },
             5 => Call::Availability { year },
@@ -147,7 +164,7 @@ impl Generator {
             17 => Call::Write { k, room: self.some_room(k) },
             18 => Call::Refile { room: self.some_room(k), bytes: self.any_bytes() },
             19 => Call::Print { bytes: self.any_bytes() },
-            20 => Call::SetSlot { slot: self.random.below(400) as u16, outage: self.any_outage() },
+            20 => Call::set_slot(self.random.below(400) as u16, self.any_outage()),
             21 => Call::SetCount { count: self.any_u64(), regime_end: self.any_u32() },
             22 => Call::SetBook { book: self.any_book() },
             23 => Call::SetYear { k, fields: self.any_fields() },
@@ -161,7 +178,10 @@ impl Generator {
             30 => Call::ShowBook,
             31 => Call::Empty { regime_end: self.random.fair_regime_end() },
             32 => Call::SetBook { book: self.random.fair_book(self.desk.log.regime_end) },
-            33 => Call::Enter { outage: Slot { start: 5, end: 9, mw: self.random.mw() } },
+            33 => {
+                let (mw, cause) = (self.random.mw(), self.random.cause());
+                Call::enter(Slot { start: 5, end: 9, mw, cause })
+            }
             34 => Call::Close { minute: self.any_closing() },
             35 => Call::SetClosed { minute: self.any_closing() },
             36..=39 => self.any_plan_call(),
@@ -191,7 +211,7 @@ impl Generator {
             3 => Call::WriteSheet { room: self.sheet_room() },
             4 => Call::Keep { bytes: self.some_sheet(regime_end) },
             5 => Call::PrintMinute { minute: self.any_u32() },
-            _ => Call::PrintOutage { outage: self.any_outage() },
+            _ => Call::print_outage(self.any_outage()),
         }
     }
 }

@@ -272,11 +272,11 @@ impl Generator {
                 return self.put_period_year(k, first + k, false);
             }
             5 => {
-                let outage = Slot { start: 3, end: 3, mw: 0 };
-                self.call(Call::SetSlot { slot: 399, outage });
+                let outage = Slot { start: 3, end: 3, mw: 0, cause: 1 };
+                self.call(Call::set_slot(399, outage));
                 self.call(Call::Period);
                 self.call(Call::Levels { k });
-                return self.call(Call::SetSlot { slot: 399, outage: Slot::default() });
+                return self.call(Call::set_slot(399, Slot::default()));
             }
             6 => {
                 let good = self.desk.book.clone();

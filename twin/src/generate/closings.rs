@@ -117,7 +117,7 @@ impl Generator {
         for (from, to) in beside {
             let (start, end) = (minute(at + from), minute((at + to).min(last)));
             if start < end {
-                middle.push(Slot { start, end, mw: self.random.fair_mw() });
+                middle.push(Slot { start, end, mw: self.random.fair_mw(), cause: 1 });
             }
         }
         let room = last - at >= 4_000;
@@ -159,8 +159,11 @@ impl Generator {
     /// One call beside the closed minute.
     fn call_by_closed(&mut self) {
         let call = match self.random.below(20) {
-            0..=9 => Call::Enter { outage: self.outage_by_closed() },
-            10..=16 => Call::Cancel { start: self.start_by_closed() },
+            0..=9 => Call::enter(self.outage_by_closed()),
+            10..=16 => {
+                let (start, cause) = self.key_by_closed();
+                Call::cancel(start, cause)
+            }
             17 => Call::Close { minute: self.closing_minute() },
             _ => return self.log_call(),
         };
@@ -205,29 +208,36 @@ impl Generator {
             (at, last + 1),
         ];
         let (start, end) = self.random.pick(&stretches);
-        Slot { start: minute(start), end: minute(end), mw: self.random.mw() }
+        let (mw, cause) = (self.random.mw(), self.random.cause());
+        Slot { start: minute(start), end: minute(end), mw, cause }
     }
 
-    fn start_by_closed(&mut self) -> u32 {
+    fn key_by_closed(&mut self) -> (u32, u8) {
         let closed = self.desk.log.closed;
         let old = self.old_entry().unwrap_or_default();
         let open = self.held().iter().find(|held| held.start >= closed).copied();
         let open = open.unwrap_or_default();
-        let any = self.some_entry().map_or(0, |(entry, _)| entry.start);
+        let any = self.some_entry().map_or((0, 1), |(entry, _)| entry.key());
         let (before, after) = (closed.saturating_sub(1), closed.saturating_add(1));
-        let starts = [old.start, old.start, old.end, open.start, any, closed, before, after, 0];
-        self.random.pick(&starts)
+        let starts = [old.end, closed, before, after, 0].map(|start| (start, 1));
+        let held = [old.key(), old.key(), open.key(), any];
+        let (start, cause) = self.random.pick(&[&starts[..], &held].concat());
+        if self.random.one_in(8) {
+            (start, self.random.cause())
+        } else {
+            (start, cause)
+        }
     }
 
     /// Each call that takes the log that stands.
     fn every_log_call(&mut self) {
-        let (outage, start) = (self.outage_by_closed(), self.start_by_closed());
+        let (outage, (start, cause)) = (self.outage_by_closed(), self.key_by_closed());
         let minute = self.closing_minute();
         let (a, b) = self.stretch();
         let (year, k) = (self.random.fair_number(), self.any_k());
         for call in [
-            Call::Enter { outage },
-            Call::Cancel { start },
+            Call::enter(outage),
+            Call::cancel(start, cause),
             Call::Close { minute },
             Call::Close { minute: self.desk.log.closed },
             Call::Lost { a, b },
@@ -334,8 +344,7 @@ mod tests {
     fn entering_edges(log: &Log, outage: &Slot, number: &str) -> Vec<&'static str> {
         let old = outage.start < log.closed;
         let at_closed = log.closed > 0 && outage.start == log.closed;
-        let clashes =
-            log.entries().iter().any(|held| held.start < outage.end && outage.start < held.end);
+        let clashes = log.check_outage(outage).is_ok() && !log.has_room_beside(outage);
         let full = log.count as usize == SLOTS;
         let edges = [
             ("2 in closed time", old && number == "2"),
@@ -353,9 +362,9 @@ mod tests {
         edges.into_iter().filter(|edge| edge.1).map(|edge| edge.0).collect()
     }
 
-    fn cancelling_edges(log: &Log, start: u32, number: &str) -> Vec<&'static str> {
-        let entry = log.entries().iter().find(|held| held.start == start);
-        let at_closed = log.closed > 0 && start == log.closed;
+    fn cancelling_edges(log: &Log, key: (u32, u8), number: &str) -> Vec<&'static str> {
+        let entry = log.entries().iter().find(|held| held.key() == key);
+        let at_closed = log.closed > 0 && key.0 == log.closed;
         let edges = [
             ("cancel 16 without an entry", number == "16" && entry.is_none()),
             ("cancel 16 of an old entry", number == "16" && entry.is_some()),
@@ -414,8 +423,10 @@ mod tests {
         match call {
             Call::Write { .. } | Call::WriteSheet { .. } => writing_edges(desk, call, number),
             _ if !desk.log.keeps_rules() => Vec::new(),
-            Call::Enter { outage } => entering_edges(&desk.log, outage, number),
-            Call::Cancel { start } => cancelling_edges(&desk.log, *start, number),
+            Call::Enter { outage, .. } => entering_edges(&desk.log, outage, number),
+            Call::Cancel { start, cause, .. } => {
+                cancelling_edges(&desk.log, (*start, *cause), number)
+            }
             Call::Close { minute } => closing_edges(&desk.log, *minute, number),
             _ => Vec::new(),
         }

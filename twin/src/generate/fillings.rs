@@ -85,10 +85,25 @@ impl Generator {
             4 => return Outages::default(),
             _ => self.few_outages(first),
         };
-        if self.random.one_in(2) {
+        if self.random.one_in(4) {
+            self.overlap_in_a_year(&mut outages);
+        }
+        if !self.random.one_in(3) {
             self.across_a_year_end(&mut outages, first);
         }
         outages
+    }
+
+    /// Beside an outage of each year one of another cause, up to 1,000 MW.
+    fn overlap_in_a_year(&mut self, outages: &mut Outages) {
+        for outages in outages.iter_mut().filter(|outages| (1..400).contains(&outages.len())) {
+            let place = self.random.below(outages.len() as u64) as usize;
+            let one = outages[place];
+            if one.mw < 1_000 && one.cause < 255 {
+                let other = Slot { mw: 1_000 - one.mw, cause: one.cause + 1, ..one };
+                outages.insert(place + 1, other);
+            }
+        }
     }
 
     /// The two days, one time in four out of range or reversed.
@@ -97,7 +112,7 @@ impl Generator {
         let first = random.between(61, 70_000) as u32;
         match random.below(20) {
             0 => (random.pick(&[0, 60, 60]), first),
-            1 => (random.pick(&[0, first]), u32::MAX),
+            1 | 11 => (random.pick(&[0, first]), u32::MAX),
             2 => (first + 1, first),
             3 => (random.pick(&[60, 73_051]), 73_051),
             4 => (first, 73_051),
@@ -164,12 +179,15 @@ impl Generator {
     fn full_outages(&mut self, first: u8) -> Outages {
         let k = self.random.below(3) as usize;
         let at = |over: usize| minutes_of(first + (k + over) as u8).0 as u32;
-        let outage = |start: u32, end: u32| Slot { start, end, mw: 1 };
+        let outage = |start: u32, end: u32| Slot { start, end, mw: 1, cause: 1 };
         let minutes = |from: u32, count: u32| {
             (from..from + count).map(move |start| outage(start, start + 1)).collect::<Vec<_>>()
         };
-        // Over the end of year k, from there on, and sharing its last minute.
-        let (over, behind) = (outage(at(1) - 1, at(1) + 90), outage(at(1) + 90, at(1) + 91));
+        // Over the end of year k, from there on, and in its last minute, which has
+        // no room, or now and then room for it.
+        let mw = self.random.pick(&[1_000, 1_000, 1_000, 999]);
+        let full = |start: u32, end: u32| Slot { start, end, mw, cause: 1 };
+        let (over, behind) = (full(at(1) - 1, at(1) + 90), outage(at(1) + 90, at(1) + 91));
         let clash = outage(at(1) + 89, at(1) + 91);
         let mut outages = Outages::default();
         outages[k] = [minutes(at(0), 399), vec![over]].concat();
@@ -177,7 +195,7 @@ impl Generator {
             0 => outages[k + 1] = vec![clash],
             1 => outages[k + 1] = vec![behind],
             2 => {
-                outages[k + 1] = vec![behind, outage(at(2) - 1, at(2) + 90)];
+                outages[k + 1] = vec![behind, full(at(2) - 1, at(2) + 90)];
                 outages[k + 2] = vec![outage(at(2) + 89, at(2) + 91)];
             }
             3 => {
@@ -205,9 +223,14 @@ impl Generator {
             start: end as u32 - random.pick(&[1, 30, 30]),
             end: next_start as u32 + random.pick(&[1, 90, 90, 1_440, 2_000]),
             mw: random.fair_mw(),
+            cause: random.fair_cause(),
         };
-        let start = long.end - random.pick(&[0, 0, 1]);
-        let next = Slot { start, end: start + random.pick(&[1, 60]), mw: random.fair_mw() };
+        let start = long.end - random.pick(&[0, 1, 1]);
+        let room = 1_000 - long.mw;
+        let any = random.fair_mw();
+        let mw = random.pick(&[room.max(1), room + 1, any]);
+        let cause = random.fair_cause();
+        let next = Slot { start, end: start + random.pick(&[1, 60]), mw, cause };
         outages[from].retain(|outage| outage.end <= long.start);
         outages[from].truncate(399);
         outages[from].push(long);
@@ -262,7 +285,7 @@ impl Generator {
                 *returns = (0..5).map(|k| self.bare_return(first + k)).collect();
             }
             6 => returns[k].clear(),
-            7 => returns[k].resize(self.random.pick(&[8_192, 8_193, 8_193, 9_000]), 0),
+            7 => returns[k].resize(self.random.pick(&[8_192, 8_193, 8_193, 8_193, 9_000]), 0),
             8 => {
                 returns[k].pop();
             }
@@ -442,9 +465,15 @@ mod tests {
                 year.log.entries().last().is_some_and(|last| last.end as i128 > end)
             })
         };
-        let clashes = |place: usize| {
+        // Whether an outage and one behind it lose so much in a minute.
+        let lose = |place: usize, least: u16, most: u16| {
             let (one, later) = (outages[place], &outages[place + 1..]);
-            later.iter().any(|other| one.start < other.end && other.start < one.end)
+            let together = |other: &Slot| (least..=most).contains(&(one.mw + other.mw));
+            later.iter().any(|other| one.shares_a_minute(other) && together(other))
+        };
+        let any_lose = |least, most| (0..outages.len()).any(|place| lose(place, least, most));
+        let own_overlap = |year: &Year| {
+            year.log.entries().windows(2).any(|pair| pair[0].shares_a_minute(&pair[1]))
         };
         let (filled, full, held) = (number == 0, number == 5, log.count as usize);
         let count = outages.len();
@@ -459,7 +488,11 @@ mod tests {
             ("401 outages", full && count == 401),
             ("2,000 outages", full && count == 2_000),
             ("5 before the last", full && count > held + 1),
-            ("5 before a clash", full && (0..count).any(clashes)),
+            ("5 before a clash", full && any_lose(1_001, 2_000)),
+            ("1,000 MW of two", filled && any_lose(1_000, 1_000)),
+            ("4 at 1,001 MW", number == 4 && any_lose(1_001, 1_001)),
+            ("an overlap in a return", filled && years.iter().any(own_overlap)),
+            ("a cause", filled && outages.iter().any(|outage| outage.cause != 1)),
             ("4 with 400 held", number == 4 && held == 400),
             ("4 with fewer held", number == 4 && held < 400),
             ("4 before there is no room", number == 4 && held < 400 && count > 400),
@@ -537,7 +570,7 @@ mod tests {
                 *seen.entry(edge).or_default() += 1;
             }
         }
-        let (reading, entering, assessing) = (16 + 1 + 11, 14, 10);
+        let (reading, entering, assessing) = (16 + 1 + 11, 18, 10);
         assert_eq!(seen.len(), reading + 9 + 5 + entering + assessing, "{seen:?}");
         assert!(seen.values().all(|times| *times >= 10), "{seen:?}");
     }

@@ -126,12 +126,12 @@ impl Generator {
         let mut outages = Vec::new();
         if whole > 0 {
             let start = minute((first - before).max(0));
-            outages.push(Slot { start, end: minute(first + whole), mw: 1_000 });
+            outages.push(Slot { start, end: minute(first + whole), mw: 1_000, cause: 1 });
         }
         if rest > 0 {
             let after = if self.random.one_in(2) { self.random.between(0, 3_000) } else { 0 };
             let last = minute((end + after).min(regime_end as i128));
-            outages.push(Slot { start: minute(end - 1), end: last, mw: rest as u16 });
+            outages.push(Slot { start: minute(end - 1), end: last, mw: rest as u16, cause: 1 });
         }
         outages
     }
@@ -168,11 +168,11 @@ impl Generator {
             let mut order = outages.to_vec();
             self.random.shuffle(&mut order);
             for outage in order {
-                self.call(Call::Enter { outage });
+                self.call(Call::enter(outage));
             }
         } else {
             for (slot, outage) in outages.iter().enumerate() {
-                self.call(Call::SetSlot { slot: slot as u16, outage: *outage });
+                self.call(Call::set_slot(slot as u16, *outage));
             }
             self.call(Call::SetCount { count: outages.len() as u64, regime_end });
         }
@@ -194,12 +194,15 @@ impl Generator {
         }
         if self.random.one_in(60) {
             let plan = self.random.some_plan(self.desk.log.regime_end);
-            return self.call(Call::EnterPlan { plan });
+            return self.call(Call::enter_plan(plan));
         }
         let number = self.random.year_number();
         let call = match self.random.below(22) {
-            0..=7 => Call::Enter { outage: self.outage_to_enter() },
-            8..=11 => Call::Cancel { start: self.start_to_cancel() },
+            0..=7 => Call::enter(self.outage_to_enter()),
+            8..=11 => {
+                let (start, cause) = self.key_to_cancel();
+                Call::cancel(start, cause)
+            }
             12..=15 => {
                 let (a, b) = self.stretch();
                 Call::Lost { a, b }
@@ -261,7 +264,7 @@ impl Generator {
             _ => self.free_stretch(length),
         };
         let mw = if self.random.one_in(3) { self.random.mw() } else { self.random.fair_mw() };
-        Slot { start: minute(start), end: minute(end), mw }
+        Slot { start: minute(start), end: minute(end), mw, cause: self.random.cause() }
     }
 
     /// A stretch without regard to the entries held.
@@ -286,13 +289,15 @@ impl Generator {
         }
     }
 
-    fn start_to_cancel(&mut self) -> u32 {
+    /// The start and the cause of an entry held, or one of them of another.
+    fn key_to_cancel(&mut self) -> (u32, u8) {
         match (self.random.below(8), self.some_entry()) {
-            (0..=3, Some((entry, _))) => entry.start,
-            (4, Some((entry, _))) => entry.end,
-            (5, Some((entry, _))) => minute(entry.start as i128 + 1),
-            (6, _) => self.random.minute(),
-            _ => 0,
+            (0..=2, Some((entry, _))) => entry.key(),
+            (3, Some((entry, _))) => (entry.start, self.random.cause()),
+            (4, Some((entry, _))) => (entry.end, entry.cause),
+            (5, Some((entry, _))) => (minute(entry.start as i128 + 1), entry.cause),
+            (6, _) => (self.random.minute(), self.random.cause()),
+            _ => (0, 1),
         }
     }
 
@@ -346,13 +351,14 @@ impl Generator {
             4 | 5 if count < SLOTS => {
                 let free = self.random.pick(&[count, SLOTS - 1, (count + SLOTS) / 2]);
                 let single = [
-                    Slot { start: 1, end: 0, mw: 0 },
-                    Slot { start: 0, end: 1, mw: 0 },
-                    Slot { start: 0, end: 0, mw: 1 },
-                    Slot { start: 5, end: 6, mw: 7 },
+                    Slot { start: 1, ..Slot::default() },
+                    Slot { end: 1, ..Slot::default() },
+                    Slot { mw: 1, ..Slot::default() },
+                    Slot { cause: 1, ..Slot::default() },
+                    Slot { start: 5, end: 6, mw: 7, cause: 1 },
                 ];
                 let outage = self.random.pick(&single);
-                return self.call(Call::SetSlot { slot: free as u16, outage });
+                return self.call(Call::set_slot(free as u16, outage));
             }
             6 => return self.set_count(count as u64 - 1, log.regime_end),
             7 => slot.start = slot.end,
@@ -360,20 +366,22 @@ impl Generator {
             9 => slot.mw = self.random.pick(&[0, 1_001, 65_535]),
             10 => slot.end = self.random.pick(&[log.regime_end + 1, u32::MAX]),
             11..=13 if count > 1 => {
+                // Broken where the two lose more than 1,000 MW together.
                 let later = place.max(1);
                 let mut shared = log.slots[later];
                 shared.start = log.slots[later - 1].end - 1;
-                return self.call(Call::SetSlot { slot: later as u16, outage: shared });
+                shared.mw = shared.mw.max(1_001 - log.slots[later - 1].mw.min(1_000));
+                return self.call(Call::set_slot(later as u16, shared));
             }
             14..=16 if count > 1 => {
                 let later = place.max(1);
                 let (one, other) = (log.slots[later - 1], log.slots[later]);
-                self.call(Call::SetSlot { slot: later as u16 - 1, outage: other });
-                return self.call(Call::SetSlot { slot: later as u16, outage: one });
+                self.call(Call::set_slot(later as u16 - 1, other));
+                return self.call(Call::set_slot(later as u16, one));
             }
             _ => slot = Slot::default(),
         }
-        self.call(Call::SetSlot { slot: place as u16, outage: slot });
+        self.call(Call::set_slot(place as u16, slot));
         if count == SLOTS && self.random.one_in(4) {
             self.set_count(SLOTS as u64 + 1, log.regime_end);
         }

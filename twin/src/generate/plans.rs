@@ -9,7 +9,7 @@ use crate::model::plan::{read, Plan};
 use crate::model::yearly_return::MOST_BYTES;
 use crate::script::Call;
 
-/// The bytes of a plan.
+/// The bytes of a plan of the usual cause.
 const MESSAGE: usize = 17;
 
 /// The minutes from a plan's first start to that of its outage i.
@@ -37,7 +37,8 @@ impl Random {
         let filled = step as u32 * MINUTES_OF_A_DAY as u32;
         let any = self.between(1, filled as i128) as u32;
         let length = self.pick(&[1, 120, 120, filled, filled - 1, any]);
-        let plan = Plan { start: 0, length, step, count, mw: self.fair_mw() };
+        let (mw, cause) = (self.fair_mw(), self.fair_cause());
+        let plan = Plan { start: 0, length, step, count, mw, cause };
         Plan { start: self.first_start(&plan, regime_end), ..plan }
     }
 
@@ -77,7 +78,7 @@ impl Random {
     /// Puts a number of a plan past a limit, or two of them.
     fn spoil_plan(&mut self, plan: &mut Plan) {
         let filled = plan.step_minutes() as u32;
-        match self.below(12) {
+        match self.below(13) {
             0 => plan.count = 0,
             1 => plan.count = 401,
             2 => plan.count = self.pick(&[402, 65_535, 65_535]),
@@ -87,6 +88,7 @@ impl Random {
             6 | 7 => plan.length = self.pick(&[u32::MAX, u32::MAX, u32::MAX, filled + (1 << 16)]),
             8 => plan.length = 0,
             9 => (plan.length, plan.count) = (0, self.pick(&[0, 401])),
+            10 => plan.cause = 0,
             _ => plan.mw = self.pick(&[0, 1_001, 65_535]),
         }
     }
@@ -116,13 +118,13 @@ impl Random {
     fn far_plan(&mut self, regime_end: u32) -> Plan {
         let mut plan = self.fair_plan(regime_end);
         let whole = 1 << 32;
-        match self.below(7) {
-            0 | 1 => {
+        match self.below(8) {
+            0..=2 => {
                 plan.start = minute(whole - plan.length as i128 + self.pick(&[-1, -1, 0, 0, 1]))
             }
-            2 => plan.start = u32::MAX - self.pick(&[0, 1, 1_439, 1_440]),
-            3 => (plan.step, plan.count) = (65_535, self.pick(&[1, 2, 46, 47, 400])),
-            4 => (plan.start, plan.step, plan.count) = (u32::MAX, 65_535, 400),
+            3 => plan.start = u32::MAX - self.pick(&[0, 1, 1_439, 1_440]),
+            4 => (plan.step, plan.count) = (65_535, self.pick(&[1, 2, 46, 47, 400])),
+            5 => (plan.start, plan.step, plan.count) = (u32::MAX, 65_535, 400),
             // In 32 bits the last outage comes round into the regime.
             _ => {
                 let steps = self.between(46, 399);
@@ -171,7 +173,8 @@ impl Random {
             (s - n, e + n),
         ];
         let (start, end) = self.pick(&stretches);
-        Slot { start: minute(start), end: minute(end), mw: self.fair_mw() }
+        let (mw, cause) = (self.fair_mw(), self.pick(&[plan.cause, plan.cause, 1, 2]));
+        Slot { start: minute(start), end: minute(end), mw, cause }
     }
 
     /// A message that is cut, changed or goes on; few of them are still plans.
@@ -234,14 +237,14 @@ impl Generator {
         let plan = self.random.some_plan(regime_end);
         let bad = self.random.one_in(6);
         let listed_to = if bad { self.random.bad_regime_end() } else { regime_end };
-        self.call(Call::ListPlan { regime_end: listed_to, plan });
+        self.call(Call::list_plan(listed_to, plan));
         self.call(Call::Empty { regime_end });
         self.enter_plan(plan);
     }
 
     /// Enters a plan, and asks now and then what the log then holds and loses.
     fn enter_plan(&mut self, plan: Plan) {
-        self.call(Call::EnterPlan { plan });
+        self.call(Call::enter_plan(plan));
         match self.random.below(8) {
             0 => self.call(Call::ShowLog),
             1 => {
@@ -266,7 +269,7 @@ impl Generator {
             let some = self.random.some_outage(plan.count);
             let window = plan.outage(some).unwrap();
             let outage = self.random.beside_window(&plan, window);
-            self.call(Call::Enter { outage });
+            self.call(Call::enter(outage));
         }
         self.enter_plan(plan);
     }
@@ -276,17 +279,19 @@ impl Generator {
     fn plan_by_room(&mut self, regime_end: u32) {
         let held = self.random.pick(&[1, 1, 2, 200, 398, 398, 398, 399, 399, 400]);
         let first = self.random.between(0, 11_000_000) as u32;
-        let holding = Plan { start: first, length: 1, step: 1, count: held, mw: 1 };
+        let holding = Plan { start: first, length: 1, step: 1, count: held, mw: 1, cause: 1 };
         self.call(Call::Empty { regime_end });
-        self.call(Call::EnterPlan { plan: holding });
+        self.call(Call::enter_plan(holding));
         let free = SLOTS as i128 - held as i128;
         let count = (free + self.random.pick(&[-1, 0, 0, 1, 1, 2])).clamp(1, 400) as u16;
         let (from, length) = self.random.pick(&[(1, 1), (1, 1_439), (700, 60), (0, 60)]);
         let plan = Plan { start: first + from, length, count, ..holding };
-        if free > 0 && self.random.one_in(4) {
-            // The outage that finds no room shares a minute as well.
+        if free > 0 && self.random.one_in(3) {
+            // The outage that finds no room is held already, or clashes as well.
             let outage = plan.outage(free as u64).unwrap();
-            self.call(Call::Enter { outage });
+            let full = Slot { mw: 1_000, cause: 2, ..outage };
+            let outage = self.random.pick(&[outage, full]);
+            self.call(Call::enter(outage));
         }
         self.enter_plan(plan);
     }
@@ -297,7 +302,7 @@ impl Generator {
         self.call(Call::Empty { regime_end });
         if self.random.one_in(2) {
             let end = minute((at as i128 + self.random.pick(&[0, 1, 60])).min(regime_end as i128));
-            self.call(Call::Enter { outage: Slot { start: at - 1, end, mw: 1 } });
+            self.call(Call::enter(Slot { start: at - 1, end, mw: 1, cause: 1 }));
         }
         self.close_at(at);
         for _ in 0..6 {
@@ -323,7 +328,7 @@ impl Generator {
         self.enter_plan(plan);
         let some = self.random.some_outage(plan.count);
         let start = plan.outage(some).unwrap().start;
-        self.call(Call::Cancel { start });
+        self.call(Call::cancel(start, plan.cause));
         self.enter_plan(plan);
         self.enter_plan(Plan { start, count: 1, ..plan });
         let gap = plan.step_minutes() as u32 - plan.length;
@@ -337,25 +342,25 @@ impl Generator {
         self.put_open_log(&outages, regime_end);
         self.break_log(count);
         let plan = self.random.fair_plan(regime_end);
-        self.call(Call::EnterPlan { plan });
+        self.call(Call::enter_plan(plan));
         let plan = self.random.bad_plan(regime_end);
-        self.call(Call::EnterPlan { plan });
+        self.call(Call::enter_plan(plan));
     }
 
     /// A plan written and read again.
     fn message_there_and_back(&mut self) {
         let plan = self.random.some_plan(LAST_REGIME_END);
-        let room = self.plan_room();
-        self.call(Call::WritePlan { plan, room });
+        let room = self.plan_room(&plan);
+        self.call(Call::write_plan(plan, room));
         self.call(Call::ReadPlan { bytes: plan.bytes() });
     }
 
     /// Room for a plan, now and then all that can be lent or more.
-    fn plan_room(&mut self) -> u32 {
+    fn plan_room(&mut self, plan: &Plan) -> u32 {
         if self.random.one_in(12) {
             return self.random.pick(&[262_144, 262_145, u32::MAX]);
         }
-        self.random.room_for(MESSAGE as u32)
+        self.random.room_for(plan.bytes().len() as u32)
     }
 
     /// Messages that are too long, changed, and one in two times cut everywhere.
@@ -383,8 +388,8 @@ impl Generator {
         let plan = read(&bytes);
         self.call(Call::ReadPlan { bytes });
         if let Ok(plan) = plan {
-            let room = self.plan_room();
-            self.call(Call::WritePlan { plan, room });
+            let room = self.plan_room(&plan);
+            self.call(Call::write_plan(plan, room));
         }
     }
 
@@ -397,12 +402,13 @@ impl Generator {
             let half = |at: usize| u16::from_be_bytes([numbers[at], numbers[at + 1]]);
             plan.start = self.random.edge_u32();
             (plan.step, plan.count, plan.mw) = (half(0), half(2), half(4));
+            plan.cause = numbers[6];
         }
         match self.random.below(4) {
-            0 => Call::ListPlan { regime_end, plan },
-            1 => Call::EnterPlan { plan },
+            0 => Call::list_plan(regime_end, plan),
+            1 => Call::enter_plan(plan),
             2 => Call::ReadPlan { bytes: self.random.damaged_message(&plan) },
-            _ => Call::WritePlan { plan, room: self.plan_room() },
+            _ => Call::write_plan(plan, self.plan_room(&plan)),
         }
     }
 }
@@ -511,10 +517,10 @@ mod tests {
         ]
     }
 
-    /// The edges of 4 and 5.
+    /// The edges of 19, 4 and 5.
     fn clash_edges(log: &Log, plan: &Plan, (number, outage): (u8, u64)) -> Edges<'static> {
         let (held, last) = (log.count, plan.count as u64);
-        let clash = number == 4;
+        let (clash, again) = (number == 4, number == 19);
         let equal = |window: &Slot| {
             log.entries().iter().any(|held| (held.start, held.end) == (window.start, window.end))
         };
@@ -526,8 +532,13 @@ mod tests {
             ("4 at a middle outage", clash && outage > 2 && outage < last),
             ("4 at the last outage", clash && outage == last && last > 1),
             ("4 by an equal entry", clash && equal(&plan.outage(outage).unwrap())),
-            ("the same plan twice", clash && outage == 1 && all()),
             ("4 where there is no room", clash && held + outage == SLOTS as u64 + 1),
+            ("19 at outage 1", again && outage == 1 && last > 1),
+            ("19 at outage 2", again && outage == 2 && last > 2),
+            ("19 at a middle outage", again && outage > 2 && outage < last),
+            ("19 at the last outage", again && outage == last && last > 1),
+            ("the same plan twice", again && outage == 1 && all()),
+            ("19 where there is no room", again && held + outage == SLOTS as u64 + 1),
             ("5 at outage 1", full && outage == 1),
             ("5 at outage 2", full && outage == 2 && held == 399),
             ("5 at a middle outage", full && outage > 2 && outage < last),
@@ -643,12 +654,16 @@ mod tests {
     /// the name of the call.
     fn edges(desk: &Desk, call: &Call, answer: &str) -> Vec<String> {
         let (name, edges) = match call {
-            Call::EnterPlan { plan } => ("enter", entering_edges(&desk.log, plan, head(answer))),
-            Call::ListPlan { regime_end, plan } => {
+            Call::EnterPlan { plan, .. } => {
+                ("enter", entering_edges(&desk.log, plan, head(answer)))
+            }
+            Call::ListPlan { regime_end, plan, .. } => {
                 ("list", listing_edges(plan, *regime_end, head(answer)))
             }
             Call::ReadPlan { bytes } => ("read", reading_edges(bytes, head(answer))),
-            Call::WritePlan { plan, room } => ("write", writing_edges(plan, *room, head(answer))),
+            Call::WritePlan { plan, room, .. } => {
+                ("write", writing_edges(plan, *room, head(answer)))
+            }
             _ => return Vec::new(),
         };
         edges.iter().filter(|edge| edge.1).map(|edge| format!("{name}: {}", edge.0)).collect()
@@ -657,7 +672,7 @@ mod tests {
     #[test]
     fn the_edges_of_plans_are_frequent() {
         let seen = seen(edges);
-        let (entering, listing) = (2 + 17 + 18 + 15 + 8 + 9, 2 + 17 + 18);
+        let (entering, listing) = (2 + 17 + 18 + 20 + 8 + 9, 2 + 17 + 18);
         assert_eq!(seen.len(), entering + listing + 17 + 7, "{seen:?}");
         assert!(seen.values().all(|times| *times >= 20), "{seen:?}");
     }
@@ -668,7 +683,7 @@ mod tests {
         let mut lengths = BTreeSet::new();
         for (call, answer) in (0..20).flat_map(|_| generator.plan_block().calls) {
             let Call::ReadPlan { bytes } = call else { continue };
-            assert!(bytes.len() >= MESSAGE || answer == "13 0 0 0 0 0 0");
+            assert!(bytes.len() >= MESSAGE || answer == "13 0 0 0 0 0 0 0");
             lengths.insert(bytes.len());
         }
         assert!((0..=MESSAGE + 1).all(|length| lengths.contains(&length)), "{lengths:?}");
@@ -680,7 +695,7 @@ mod tests {
         for i in 1..=plan.count as u64 {
             let start = plan.start as i128 + minutes_to(plan, i);
             let end = minute(start + plan.length as i128);
-            let outage = Slot { start: minute(start), end, mw: plan.mw };
+            let outage = Slot { start: minute(start), end, mw: plan.mw, cause: plan.cause };
             log.enter(outage).map_err(|refusal| (refusal, i))?;
         }
         Ok(log)
@@ -695,7 +710,7 @@ mod tests {
             for (call, answer) in block.calls {
                 let log = desk.log.clone();
                 desk.carry_out(&call);
-                let Call::EnterPlan { plan } = call else { continue };
+                let Call::EnterPlan { plan, .. } = call else { continue };
                 if !log.keeps_rules() || is_wrong(&plan) {
                     assert!([(1, 0), (17, 0)].contains(&head(&answer)));
                     assert_eq!(desk.log, log);

@@ -48,7 +48,7 @@ impl Generator {
             }
         }
         // 8 before 1, and 1 before 9.
-        self.call(Call::SetSlot { slot: 399, outage: Slot { start: 0, end: 0, mw: 1 } });
+        self.call(Call::set_slot(399, Slot { start: 0, end: 0, mw: 1, cause: 1 }));
         let book = Book { regime_end, ..Book::fresh() };
         let mut spoiled = book.clone();
         self.random.spoil_book(&mut spoiled);

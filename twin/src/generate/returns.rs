@@ -55,7 +55,7 @@ impl Generator {
                     self.call(Call::Read { k, bytes });
                 }
                 1 => {
-                    let room = self.random.pick(&[0, 22, 23, 24, 100, 6_077, 8_192]);
+                    let room = self.random.pick(&[0, 22, 23, 24, 100, 6_077, 6_477, 8_192]);
                     self.call(Call::Refile { room, bytes });
                 }
                 _ => self.call(Call::Print { bytes }),
@@ -108,12 +108,12 @@ impl Generator {
             3 => {
                 self.call(Call::TakeLog { k });
                 let outage = self.random.pick(&[
-                    Slot { start: 0, end: 0, mw: 1 },
-                    Slot { start: 0, end: 1, mw: 1 },
-                    Slot { start: 9, end: 8, mw: 1 },
+                    Slot { start: 0, end: 0, mw: 1, cause: 1 },
+                    Slot { start: 0, end: 1, mw: 1, cause: 1 },
+                    Slot { start: 9, end: 8, mw: 1, cause: 1 },
                 ]);
                 let slot = self.random.pick(&[0, 399, 1]);
-                self.call(Call::SetSlot { slot, outage });
+                self.call(Call::set_slot(slot, outage));
                 self.call(Call::YearLog { k });
             }
             4 => {
@@ -155,6 +155,14 @@ impl Generator {
     /// A good return of a year with these outages and so many lines.
     pub fn return_of(&mut self, number: u8, lines: usize, outages: &[Slot]) -> Vec<u8> {
         joined(&self.fields_of(number, lines, outages))
+    }
+
+    /// The same without lines, and with a field of tag 07 more behind them.
+    pub fn return_with(&mut self, number: u8, outages: &[Slot], value: Vec<u8>) -> Vec<u8> {
+        let mut fields = self.fields_of(number, 0, outages);
+        let (_, end) = places(&fields, 7);
+        fields.insert(end, (7, value));
+        joined(&fields)
     }
 
     fn fields_of(&mut self, number: u8, lines: usize, outages: &[Slot]) -> Fields {
@@ -295,7 +303,7 @@ impl Generator {
         let (first, end) = year_minutes(number, LAST_REGIME_END).unwrap_or((0, 1));
         let (from, to) = places(fields, 7);
         let (first, end) = (first as u32, end as u32);
-        let outage = |start: u32, end: u32, mw: u16| Slot { start, end, mw };
+        let outage = |start: u32, end: u32, mw: u16| Slot { start, end, mw, cause: 1 };
         let candidates = [
             outage(first.saturating_sub(1), first + 1, 5),
             outage(end, end + 1, 5),
@@ -354,7 +362,8 @@ impl Generator {
                 let first = year_minutes(fields[0].1[0], LAST_REGIME_END).unwrap().0 as u32;
                 let (from, to) = places(fields, 7);
                 let count = self.random.pick(&[400, 401]);
-                let outage = |i: u32| Slot { start: first + i, end: first + i + 1, mw: 1 };
+                let outage =
+                    |i: u32| Slot { start: first + i, end: first + i + 1, mw: 1, cause: 1 };
                 fields.splice(from..to, (0..count).map(|i| (7, outage_value(&outage(i)))));
             }
         }

@@ -43,7 +43,7 @@ impl Random {
         };
         let same = continued || last.mw > 0 && self.one_in(2);
         let mw = if same { last.mw } else { self.fair_mw() };
-        Some(Piece { continued, part: Slot { start: start as u32, end: end as u32, mw } })
+        Some(Piece { continued, part: Slot { start: start as u32, end: end as u32, mw, cause: 1 } })
     }
 
     /// A piece at or past a limit beside the last one: not where it ended, not
@@ -109,7 +109,7 @@ impl Random {
             2 => self.pick(&[0, 1, 1_000, 1_001, 65_535]),
             _ => last.mw,
         };
-        let part = Slot { start: minute(start), end: minute(end), mw };
+        let part = Slot { start: minute(start), end: minute(end), mw, cause: 1 };
         Piece { continued: self.one_in(3), part }
     }
 
@@ -132,7 +132,7 @@ impl Random {
             Some(piece) => piece.part,
             None => {
                 let start = self.first_minute_of_sheet(regime_end);
-                Slot { start, end: start, mw: 0 }
+                Slot { start, end: start, mw: 0, cause: 1 }
             }
         }
     }
@@ -171,7 +171,8 @@ impl Random {
             (5, _) => {
                 let start = last.start.saturating_sub(1);
                 piece.continued = false;
-                piece.part = Slot { start, end: self.pick(&[last.start, start]), mw: last.mw };
+                piece.part =
+                    Slot { start, end: self.pick(&[last.start, start]), mw: last.mw, cause: 1 };
             }
             _ => (),
         }
@@ -229,7 +230,7 @@ impl Random {
         let mut pieces = Vec::new();
         let mut start = 0;
         for end in ends {
-            pieces.extend(pieces_of(&Slot { start, end, mw: self.fair_mw() }));
+            pieces.extend(pieces_of(&Slot { start, end, mw: self.fair_mw(), cause: 1 }));
             start = end;
         }
         pieces
@@ -433,6 +434,7 @@ impl Generator {
         }
         let end = if self.random.one_in(3) { self.random.dated_minute() } else { minute };
         let mw = self.random.pick(&[0, 1, 9, 10, 99, 100, 999, 1_000, 1_001, 9_999, 65_535]);
-        self.call(Call::PrintOutage { outage: Slot { start: minute, end, mw } });
+        let cause = self.random.pick(&[1, 1, 1, 1, 1, 1, 0, 2, 9, 10, 99, 100, 255]);
+        self.call_or_spell(Call::print_outage(Slot { start: minute, end, mw, cause }));
     }
 }

@@ -86,6 +86,25 @@ impl Random {
         }
     }
 
+    /// A cause, the usual one in three of four.
+    pub fn fair_cause(&mut self) -> u8 {
+        match self.below(16) {
+            0 | 1 => 2,
+            2 => 255,
+            3 => self.between(3, 254) as u8,
+            _ => 1,
+        }
+    }
+
+    /// A cause, now and then 0.
+    pub fn cause(&mut self) -> u8 {
+        if self.one_in(20) {
+            0
+        } else {
+            self.fair_cause()
+        }
+    }
+
     pub fn fair_regime_end(&mut self) -> u32 {
         match self.below(8) {
             0 => 12_579_841,
@@ -191,9 +210,11 @@ impl Random {
     }
 
     /// Outages in order between two minutes, some touching, many across
-    /// midnights.
+    /// midnights, no two sharing one. In one row of eight there are other causes
+    /// than the usual one.
     pub fn outages(&mut self, count: usize, low: i128, high: i128) -> Vec<Slot> {
         let mut outages = Vec::new();
+        let by_cause = self.one_in(8);
         let mut at = low;
         for placed in 0..count {
             let share = (high - at) / (count - placed) as i128;
@@ -210,7 +231,9 @@ impl Random {
             if midnight <= most_end && self.one_in(4) {
                 end = midnight;
             }
-            outages.push(Slot { start: start as u32, end: end as u32, mw: self.fair_mw() });
+            let mw = self.fair_mw();
+            let cause = if by_cause { self.fair_cause() } else { 1 };
+            outages.push(Slot { start: start as u32, end: end as u32, mw, cause });
             at = end;
         }
         outages

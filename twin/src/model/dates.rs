@@ -1,7 +1,7 @@
 //! Dates and times as text (rules, section 16).
 
 use super::calendar::date_of_minute;
-use super::log::{Slot, LAST_REGIME_END};
+use super::log::{Slot, LAST_REGIME_END, USUAL_CAUSE};
 use super::Refusal;
 
 /// The date and time of a minute, such as 2024-03-30 23:30 (rule 16.1); one
@@ -14,10 +14,15 @@ pub fn minute_text(minute: u32) -> Result<String, Refusal> {
     Ok(format!("{year:04}-{month:02}-{day:02} {hour:02}:{rest:02}"))
 }
 
-/// The line of an outage: its start, its end and its MW (rule 16.2).
+/// The line of an outage: its start, its end, its MW, and its cause where that
+/// is not the usual one (rule 16.2).
 pub fn outage_text(outage: &Slot) -> Result<String, Refusal> {
     let (start, end) = (minute_text(outage.start)?, minute_text(outage.end)?);
-    Ok(format!("{start} {end} {}\n", outage.mw))
+    let cause = match outage.cause {
+        USUAL_CAUSE => String::new(),
+        cause => format!(" {cause}"),
+    };
+    Ok(format!("{start} {end} {}{cause}\n", outage.mw))
 }
 
 #[cfg(test)]
@@ -43,13 +48,17 @@ mod tests {
 
     #[test]
     fn lines_of_outages() {
-        let line = |start, end, mw| outage_text(&Slot { start, end, mw });
+        let line = |start, end, mw| outage_text(&Slot { start, end, mw, cause: 1 });
         assert_eq!(
             line(2_715_810, 2_715_930, 500).unwrap(),
             "2024-03-30 23:30 2024-03-31 01:30 500\n"
         );
         assert_eq!(line(0, 0, 0).unwrap(), "2019-01-31 00:00 2019-01-31 00:00 0\n");
         assert_eq!(line(13_632_480, 13_632_480, 65_535).unwrap().len(), 40);
+        let by = |cause| outage_text(&Slot { start: 0, end: 0, mw: 500, cause }).unwrap();
+        for cause in [0, 2, 255] {
+            assert_eq!(by(cause), format!("2019-01-31 00:00 2019-01-31 00:00 500 {cause}\n"));
+        }
         assert_eq!(line(13_632_481, 0, 1), Err(7));
         assert_eq!(line(0, 13_632_481, 1), Err(7));
     }

@@ -32,7 +32,7 @@ mod tests {
 
     fn example() -> Year {
         let mut year = Year { number: 2, ..Year::fresh() };
-        year.log.hold(&[Slot { start: 1_009_380, end: 1_009_500, mw: 500 }]);
+        year.log.hold(&[Slot { start: 1_009_380, end: 1_009_500, mw: 500, cause: 1 }]);
         year.lines[0] = Line { kind: 1, currency: 0, amount: 1_000_000 };
         year.lines[1] = Line { kind: 8, currency: 0, amount: 2_500 };
         year.line_count = 2;
@@ -59,7 +59,7 @@ mod tests {
     #[test]
     fn the_last_year_carries_nothing() {
         let mut year = Year { number: 25, ..Year::fresh() };
-        year.log.hold(&[Slot { start: 12_579_840, end: 13_632_480, mw: 1_000 }]);
+        year.log.hold(&[Slot { start: 12_579_840, end: 13_632_480, mw: 1_000, cause: 1 }]);
         let bytes = write(&year, 8_192).unwrap();
         assert_eq!(text(&bytes), "year 25\nlost 1052640000\ncarried 0\nrevenue 0\n");
     }

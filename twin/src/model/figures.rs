@@ -14,7 +14,7 @@ fn outage_of(year: u8, minutes: u32) -> Log {
     let mut log = Log::fresh();
     let (first, _) = year_minutes(year, log.regime_end).unwrap();
     let start = first as u32;
-    log.enter(Slot { start, end: start + minutes, mw: 1_000 }).unwrap();
+    log.enter(Slot { start, end: start + minutes, mw: 1_000, cause: 1 }).unwrap();
     log
 }
 

@@ -120,12 +120,13 @@ mod tests {
     }
 
     /// Five years whose returns have these outages: the place of the year, start
-    /// and end.
+    /// and end. Two of them together lose 1,002 MW.
     fn years_with(outages: &[(usize, u32, u32)]) -> [Year; 5] {
         let mut years = years(1);
         for (place, year) in years.iter_mut().enumerate() {
             let own = outages.iter().filter(|outage| outage.0 == place);
-            let own: Vec<Slot> = own.map(|&(_, start, end)| Slot { start, end, mw: 5 }).collect();
+            let own = own.map(|&(_, start, end)| Slot { start, end, mw: 501, cause: 1 });
+            let own: Vec<Slot> = own.collect();
             year.log.hold(&own);
         }
         years
@@ -133,7 +134,9 @@ mod tests {
 
     /// So many outages of a minute, from a minute on.
     fn minutes(start: u32, count: u32) -> Vec<Slot> {
-        (start..start + count).map(|start| Slot { start, end: start + 1, mw: 1 }).collect()
+        (start..start + count)
+            .map(|start| Slot { start, end: start + 1, mw: 1, cause: 1 })
+            .collect()
     }
 
     #[test]
@@ -251,6 +254,28 @@ mod tests {
     }
 
     #[test]
+    fn outages_of_two_returns_together() {
+        let mut both = years_with(&[(0, 482_390, 482_460), (1, 482_459, 482_470)]);
+        both[1].log.slots[0].mw = 499;
+        assert_eq!(refused(&both), None);
+        both[1].log.slots[0].mw = 500;
+        assert_eq!(refused(&both), Some(4));
+        both[1].log.slots[0].cause = 2;
+        assert_eq!(refused(&both), Some(4));
+        // Three at once, of three returns.
+        let mut three = years_with(&[
+            (0, 482_390, 1_009_450),
+            (1, 1_009_430, 1_009_460),
+            (2, 1_009_440, 1_009_441),
+        ]);
+        (three[0].log.slots[0].mw, three[1].log.slots[0].mw) = (300, 300);
+        three[2].log.slots[0].mw = 400;
+        assert_eq!(refused(&three), None);
+        three[2].log.slots[0].mw = 401;
+        assert_eq!(refused(&three), Some(4));
+    }
+
+    #[test]
     fn the_running_log_decides_the_target() {
         // All of year 2 is lost, by an outage that starts in year 1: no floor on
         // a miss, but for the mark of an Exceptional Event.
@@ -271,8 +296,9 @@ mod tests {
         assert_eq!(refused(&full), None);
         full[1].log.hold(&minutes(482_400, 2));
         assert_eq!(refused(&full), Some(5));
-        // The 401st shares a minute, and comes first.
+        // One that fills its minutes into year 2, behind it and in its last one.
         full[0].log.slots[398].end = 482_402;
+        full[0].log.slots[398].mw = 1_000;
         full[1].log.hold(&minutes(482_402, 2));
         assert_eq!(refused(&full), Some(5));
         full[1].log.hold(&[minutes(482_401, 1), minutes(482_402, 1)].concat());

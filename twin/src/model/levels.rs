@@ -198,7 +198,7 @@ mod tests {
         book.miss_factor = 2_500;
         assert_eq!(availability(&book, &log, 1), Ok(482_400_000));
         assert_eq!(levels(&book, &year, &log).unwrap().1, 48_807_317);
-        log.hold(&[Slot { start: 0, end: 1, mw: 1 }]);
+        log.hold(&[Slot { start: 0, end: 1, mw: 1, cause: 1 }]);
         assert_eq!(levels(&book, &year, &log).unwrap().1, 12_201_829);
         year.mark = true;
         assert_eq!(levels(&book, &year, &log).unwrap().1, 48_807_317);

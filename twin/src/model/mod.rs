@@ -28,7 +28,7 @@ pub mod yearly_return;
 #[cfg(test)]
 mod figures;
 
-/// A refusal's number, 1 to 18.
+/// A refusal's number, 1 to 20.
 pub type Refusal = u8;
 
 /// 10^9, the limit of amounts and levels.

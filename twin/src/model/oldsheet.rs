@@ -22,7 +22,7 @@ mod tests {
 
     #[test]
     fn outages_and_refusals() {
-        let mut pieces = pieces_of(&Slot { start: 2_715_810, end: 2_715_930, mw: 500 });
+        let mut pieces = pieces_of(&Slot { start: 2_715_810, end: 2_715_930, mw: 500, cause: 1 });
         assert_eq!(text(&joined(&pieces)), "2024-03-30 23:30 2024-03-31 01:30 500\n");
         pieces[1].part.mw = 499;
         assert_eq!(text(&joined(&pieces)), "refused 15 at 13\n");

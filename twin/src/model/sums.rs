@@ -23,6 +23,7 @@ impl Sum {
             self.add(slot.start);
             self.add(slot.end);
             self.add(slot.mw as u32);
+            self.add(slot.cause as u32);
         }
     }
 
@@ -89,11 +90,11 @@ mod tests {
     }
 
     #[test]
-    fn slots_are_start_end_and_mw() {
-        let slot = |start, end, mw| Slot { start, end, mw };
-        assert_eq!(slot_sum(&[slot(0, 0, 0), slot(0, 1, 2)]), 65_601);
-        assert_eq!(slot_sum(&[slot(1, 2, 3)]), byte_sum(&[1, 2, 3]));
-        assert_eq!(slot_sum(&[slot(0, 0, 1), slot(0, 0, 0)]), byte_sum(&[1, 0, 0, 0]));
+    fn slots_are_start_end_mw_and_cause() {
+        let slot = |start, end, mw, cause| Slot { start, end, mw, cause };
+        assert_eq!(slot_sum(&[slot(0, 0, 0, 0), slot(0, 0, 1, 2)]), 65_601);
+        assert_eq!(slot_sum(&[slot(1, 2, 3, 4)]), byte_sum(&[1, 2, 3, 4]));
+        assert_eq!(slot_sum(&[slot(0, 0, 0, 1), slot(0, 0, 0, 0)]), byte_sum(&[1, 0, 0, 0, 0]));
     }
 
     #[test]

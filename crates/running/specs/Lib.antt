@@ -1,0 +1,3 @@
+-- The entries that run when a pass comes to an entry.
+pub mod Turns
+pub mod Held
