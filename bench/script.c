@@ -434,6 +434,8 @@ static void put_filed(unsigned k, uint8_t tag, unsigned fullness)
     short_field(2, 4, 10000 + 200 * k);
     short_field(3, 4, 86000);
     short_field(4, 2, 10100);
+    if (k == 0) /* year 1 leaves out others (rule 10.2) */
+        short_field(5, 4, 10000 << 16 | 10000);
     put_lines(part(LINE_SLOTS, fullness));
     put_outages(part(LOG_SLOTS / PERIOD_YEARS, fullness), STARTS[k], 5000, 1);
     end(place);

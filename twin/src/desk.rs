@@ -472,7 +472,7 @@ mod tests {
             assert_eq!(desk.carry_out(&Call::Keep { bytes: vec![*byte] }), "0");
         }
         assert!(desk.carry_out(&Call::ReadKept { k: 1 }).starts_with("0 0 "));
-        assert!(desk.carry_out(&Call::RefileKept { room: 70_000 }).starts_with("0 23 "));
+        assert!(desk.carry_out(&Call::RefileKept { room: 70_000 }).starts_with("0 30 "));
         for _ in 0..5 {
             desk.carry_out(&Call::Keep { bytes: vec![255; 65_535] });
         }
@@ -608,8 +608,9 @@ mod tests {
         let mut bytes = vec![0, 0, 0, 61, 0, 0, 0, 62];
         for number in 1..=5 {
             let year = Year { number, ..Year::fresh() };
-            bytes.extend([0, 23]);
-            bytes.extend(crate::model::yearly_return::write(&year, 23).unwrap());
+            let filed = crate::model::yearly_return::write(&year, 30).unwrap();
+            bytes.extend([0, filed.len() as u8]);
+            bytes.extend(filed);
         }
         let filled = desk.carry_out(&Call::FillWorkbook { bytes });
         // 0, and 83,806,402 and 48,807,317 as floats; no W.
@@ -620,8 +621,8 @@ mod tests {
     #[test]
     fn room_and_untouched_bytes() {
         let mut desk = Desk::new();
-        assert!(desk.carry_out(&Call::Write { k: 0, room: 23 }).starts_with("0 23 "));
-        assert!(desk.carry_out(&Call::Write { k: 0, room: 22 }).starts_with("14 0 "));
+        assert!(desk.carry_out(&Call::Write { k: 0, room: 30 }).starts_with("0 30 "));
+        assert!(desk.carry_out(&Call::Write { k: 0, room: 29 }).starts_with("14 0 "));
         assert_eq!(desk.carry_out(&Call::ShowWrite { k: 0, room: 3 }), "14 0 255 254 253");
     }
 }

@@ -1,5 +1,4 @@
--- The laws of a field that is one of two, of a value with a number beside it that is not written, and of a field that is
--- required or may be absent by a test. Assumes nothing.
+-- The laws of a field that is one of two, and of a value with a number beside it that is not written. Assumes nothing.
 use mathlib.Core.Path.{_≡_, refl, sym, ap, ap₂, _∙_}
 use mathlib.Core.Bool.{Bool, true, false, cond, _&&_}
 use mathlib.Core.List.{List, _++_, append-assoc}
@@ -13,14 +12,12 @@ use Rattle.lists.proofs.Tests.{and-left, and-right, and-made}
 use Rattle.codec.specs.Numbers.{bytesOf}
 use Rattle.codec.specs.Theorems.{Bytes}
 use Rattle.codec.specs.Fields.{head, framed}
-use Rattle.codec.specs.Theorems.{isWhole, requiredIf}
-use Rattle.codec.specs.Format.{Value, when, mapO, Item, field, fieldOf, one, opt}
+use Rattle.codec.specs.Theorems.{isWhole}
+use Rattle.codec.specs.Format.{Value, when, mapO, Item, field, fieldOf}
 use Rattle.codec.specs.Shapes.{beside, firstFound, either}
 use Rattle.codec.proofs.Numbers.{spelled-bytes}
 use Rattle.codec.proofs.Values.{ValueLaws}
 use Rattle.codec.proofs.Items.{Over, over-le, ItemLaws}
-use Rattle.codec.proofs.Formats.{Lawful}
-use Rattle.codec.proofs.Places.{Placed, Numbered}
 
 -- ---- a number beside a value
 -- what is found of it is the value and the number
@@ -126,17 +123,3 @@ module _ {A : Type 0} (is : A → Bool) (f g : Item A) (lf : ItemLaws f) (lg : I
         taken = λ bs a h. either-taken bs a (f .look bs) refl h;
         alike = λ w r q h. ap₂ firstFound (lf .alike w r q h) (lg .alike w r q h);
       }
-
--- ---- required, or absent for a default
-module _ {A : Type 0} (f g : Item A) (d : A) (is : A → Bool) where
-  pub required-if-lawful : (must : Bool) {lo hi : ℕ} → Lawful (one f) lo hi → Lawful (opt g d is) lo hi → Lawful (requiredIf must f g d is) lo hi
-  required-if-lawful true a b = a
-  required-if-lawful false a b = b
-
-  pub required-if-placed : (must : Bool) → Placed (one f) → Placed (opt g d is) → Placed (requiredIf must f g d is)
-  required-if-placed true a b = a
-  required-if-placed false a b = b
-
-  pub required-if-numbered : (must : Bool) {k : ℕ} → Numbered (one f) k → Numbered (opt g d is) k → Numbered (requiredIf must f g d is) k
-  required-if-numbered true a b = a
-  required-if-numbered false a b = b

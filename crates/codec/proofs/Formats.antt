@@ -9,7 +9,7 @@ use native.Mathlib.Omega.{arith}
 use lib.ListN.{drop}
 use Rattle.lists.proofs.Tests.{and-left, and-right}
 use Rattle.codec.specs.Theorems.{Bytes}
-use Rattle.codec.specs.Format.{Item, Res, got, stopped, Codec, need, one, orElse, unless, opt, pairUp, andThen, both}
+use Rattle.codec.specs.Format.{Item, Res, got, stopped, Codec, need, one, absent, orElse, unless, opt, pairUp, andThen, both}
 use Rattle.codec.proofs.Values.{bytes-right}
 use Rattle.codec.proofs.Items.{Over, over-le, ItemLaws}
 
@@ -17,6 +17,14 @@ pub record Lawful {A : Type 0} (c : Codec A) (lo hi : ℕ) : Type 0 where
   pub there : (a : A) (rest : List ℕ) → c .ok a ≡ true → Over hi rest → c .read (c .write a ++ rest) ≡ got a rest
   pub over : (a : A) (rest : List ℕ) → c .ok a ≡ true → Over hi rest → Over lo (c .write a ++ rest)
   pub back : (bs : List ℕ) (a : A) (rest : List ℕ) → Bytes bs → c .read bs ≡ got a rest → (bs ≡ c .write a ++ rest) × (c .ok a ≡ true)
+
+-- a field that is left out stands for the value that it is left out for
+absent-got : {A : Type 0} (d : Option A) (bs : List ℕ) (a : A) (rest : List ℕ) → absent d bs ≡ got a rest → (d ≡ some a) × (bs ≡ rest)
+absent-got (some x) bs a rest h =
+    let p : x ≡ a = cc in
+    let q : bs ≡ rest = cc in
+    (ap some p, q)
+absent-got none bs a rest h = absurd (let z : _≡_ {A = ℕ} 0 1 = cc in omega arith)
 
 module _ {A : Type 0} (f : Item A) (l : ItemLaws f) where
   need-back : (bs : List ℕ) (o : Option A) → f .look bs ≡ o → (a : A) (rest : List ℕ) → Bytes bs → need f bs o ≡ got a rest → (bs ≡ f .text a ++ rest) × (f .fine a ≡ true)
@@ -34,9 +42,9 @@ module _ {A : Type 0} (f : Item A) (l : ItemLaws f) where
         back = λ bs a rest b h. need-back bs (f .look bs) refl a rest b h;
       }
 
-  module _ (d : A) (is : A → Bool) (is-d : is d ≡ true) (d-is : (a : A) → is a ≡ true → a ≡ d) (not-fine : (a : A) → f .fine a ≡ true → is a ≡ false) where
+  module _ (d : Option A) (is : A → Bool) (is-d : (x : A) → d ≡ some x → is x ≡ true) (d-is : (a : A) → is a ≡ true → d ≡ some a) (not-fine : (a : A) → f .fine a ≡ true → is a ≡ false) where
     opt-there : (a : A) (t : Bool) → is a ≡ t → (rest : List ℕ) → (t || f .fine a) ≡ true → Over (suc (f .last)) rest → orElse f d (unless t (f .text a) ++ rest) (f .look (unless t (f .text a) ++ rest)) ≡ got a rest
-    opt-there a true e rest h o = rw (l .other rest o) (ap (λ (x : A). got x rest) (sym (d-is a e)))
+    opt-there a true e rest h o = rw (l .other rest o) (ap (λ (x : Option A). absent x rest) (d-is a e))
     opt-there a false e rest h o = rw (l .there a rest h) (ap (got a) (l .after a rest h))
 
     opt-over : (a : A) (t : Bool) → (rest : List ℕ) → Over (suc (f .last)) rest → Over (f .tag) (unless t (f .text a) ++ rest)
@@ -45,9 +53,8 @@ module _ {A : Type 0} (f : Item A) (l : ItemLaws f) where
 
     opt-back : (bs : List ℕ) (o : Option A) → f .look bs ≡ o → (a : A) (rest : List ℕ) → Bytes bs → orElse f d bs o ≡ got a rest → (bs ≡ unless (is a) (f .text a) ++ rest) × ((is a || f .fine a) ≡ true)
     opt-back bs none e a rest b h =
-        let p : d ≡ a = cc in
-        let q : bs ≡ rest = cc in
-        rw (← p, is-d) (q, refl)
+        let k = absent-got d bs a rest h in
+        rw (is-d a (k .0)) (k .1, refl)
     opt-back bs (some x) e a rest b h =
         let p : x ≡ a = cc in
         let q : drop (f .size x) bs ≡ rest = cc in

@@ -1,7 +1,7 @@
 -- Where a reading stops: what lies before that place is whole fields, what follows the field there does not matter, and
 -- where the reading stops, what lies before begins something that may be written. Assumes nothing.
 use mathlib.Core.Path.{_≡_, refl, sym, ap, subst, _∙_}
-use mathlib.Core.Bool.{Bool, true}
+use mathlib.Core.Bool.{Bool, true, _||_}
 use mathlib.Core.List.{List, [], _∷_, _++_, append-assoc, append-cancel-right}
 use mathlib.Core.Option.{Option, some, none}
 use Prim.Native.Nat.{ℕ}
@@ -12,7 +12,7 @@ use Rattle.lists.specs.Lists.{all}
 use Rattle.lists.proofs.Tests.{and-left, and-right, and-made}
 use Rattle.codec.specs.Theorems.{Bytes}
 use Rattle.codec.specs.Theorems.{isWhole, joined}
-use Rattle.codec.specs.Format.{Item, Res, got, stopped, Codec, malformed, need, one, orElse, opt, pairUp, andThen, both}
+use Rattle.codec.specs.Format.{Item, Res, got, stopped, Codec, malformed, need, one, absent, orElse, opt, pairUp, andThen, both}
 use Rattle.codec.proofs.Values.{bytes-right}
 use Rattle.codec.proofs.Items.{ItemLaws}
 use Rattle.codec.proofs.Formats.{Lawful}
@@ -105,6 +105,22 @@ same-before (f ∷ fs) r q h s =
 pub alike-at : {A : Type 0} (read : List ℕ → Res A) (w r q bs : List ℕ) → (restOf (read (w ++ r)) ≡ r → read (w ++ q) ≡ moved (read (w ++ r)) q) → bs ≡ w ++ r → restOf (read bs) ≡ r → read (w ++ q) ≡ moved (read bs) q
 alike-at read w r q bs k e h = rw e (k (rw e at h))
 
+-- ---- a field that is not there
+absent-rest : {A : Type 0} (d : Option A) (bs : List ℕ) → restOf (absent d bs) ≡ bs
+absent-rest (some x) bs = refl
+absent-rest none bs = refl
+
+absent-moved : {A : Type 0} (d : Option A) (q r : List ℕ) → absent d q ≡ moved (absent d r) q
+absent-moved (some x) q r = refl
+absent-moved none q r = refl
+
+absent-stopped : {A : Type 0} (d : Option A) (bs : List ℕ) (n : ℕ) (rest : List ℕ) → absent d bs ≡ stopped n rest → (bs ≡ rest) × (n ≡ malformed)
+absent-stopped (some x) bs n rest h = absurd (let z : _≡_ {A = ℕ} 0 1 = cc in omega arith)
+absent-stopped none bs n rest h =
+    let p : bs ≡ rest = cc in
+    let q : n ≡ malformed = cc in
+    (p, q)
+
 -- ---- one field
 module _ {A : Type 0} (f : Item A) (l : ItemLaws f) where
   -- the field found, and whole fields after it
@@ -159,32 +175,43 @@ module _ {A : Type 0} (f : Item A) (l : ItemLaws f) where
   pub one-numbered : Numbered (one f) malformed
   one-numbered = record { only = λ bs why rest h. need-numbered bs (f .look bs) why rest h }
 
-  module _ (d : A) where
+  module _ (d : Option A) where
     else-fields : (bs : List ℕ) (o : Option A) → f .look bs ≡ o → Whole bs (restOf (orElse f d bs o))
-    else-fields bs none e = no-field bs
+    else-fields bs none e = rw (absent-rest d bs) (no-field bs)
     else-fields bs (some x) e = found-more bs (drop (f .size x) bs) x e (no-field (drop (f .size x) bs))
 
     else-alike : (w r q : List ℕ) → SameField r q → (o : Option A) → f .look (w ++ r) ≡ o → restOf (orElse f d (w ++ r) o) ≡ r → orElse f d (w ++ q) (f .look (w ++ q)) ≡ moved (orElse f d (w ++ r) o) q
-    else-alike w r q s none e h = let k = none-alike w r q s e h in rw (k .0) (ap (got d) (k .1))
+    else-alike w r q s none e h =
+        let k = none-alike w r q s e (sym (absent-rest d (w ++ r)) ∙ h) in
+        rw (k .0) (absent-moved d (w ++ q) (w ++ r) ∙ ap (moved (absent d (w ++ r))) (k .1))
     else-alike w r q s (some x) e h = let k = found-alike w r [] x e h q in rw (k .0) (ap (got x) (k .1))
 
-    -- it never stops by a number
-    else-got : (bs : List ℕ) (o : Option A) (n : ℕ) (rest : List ℕ) → orElse f d bs o ≡ stopped n rest → ⊥
-    else-got bs none n rest h = let z : _≡_ {A = ℕ} 0 1 = cc in omega arith
-    else-got bs (some x) n rest h = let z : _≡_ {A = ℕ} 0 1 = cc in omega arith
+    -- where it stops nothing was read, by 13
+    else-stopped : (bs : List ℕ) (o : Option A) (n : ℕ) (rest : List ℕ) → orElse f d bs o ≡ stopped n rest → (bs ≡ rest) × (n ≡ malformed)
+    else-stopped bs none n rest h = absent-stopped d bs n rest h
+    else-stopped bs (some x) n rest h = absurd (let z : _≡_ {A = ℕ} 0 1 = cc in omega arith)
 
-    pub opt-placed : (is : A → Bool) → is d ≡ true → Placed (opt f d is)
-    opt-placed is k =
+    -- with a value that may be written, left out or not
+    pub opt-placed : (is : A → Bool) (a : A) → (is a || f .fine a) ≡ true → Placed (opt f d is)
+    opt-placed is a k =
         record {
           fields = λ bs. else-fields bs (f .look bs) refl;
           alike = λ w r q s h. else-alike w r q s (f .look (w ++ r)) refl h;
-          any = d;
-          any-ok = rw k;
-          begun = λ bs n rest b h. absurd (else-got bs (f .look bs) n rest h);
+          any = a;
+          any-ok = k;
+          begun = λ bs n rest b h.
+              record {
+                front = [];
+                is = else-stopped bs (f .look bs) n rest h .0;
+                value = a;
+                ok = k;
+                more = opt f d is .write a;
+                begins = refl;
+              };
         }
 
-    pub opt-numbered : (is : A → Bool) {k : ℕ} → Numbered (opt f d is) k
-    opt-numbered is = record { only = λ bs why rest h. absurd (else-got bs (f .look bs) why rest h) }
+    pub opt-numbered : (is : A → Bool) → Numbered (opt f d is) malformed
+    opt-numbered is = record { only = λ bs why rest h. else-stopped bs (f .look bs) why rest h .1 }
 
 -- ---- one after the other
 rest-pair : {A B : Type 0} (a : A) (x : Res B) → restOf (pairUp a x) ≡ restOf x

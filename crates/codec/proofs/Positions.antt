@@ -2,7 +2,7 @@
 use mathlib.Core.Path.{_≡_, refl, sym, ap, _∙_}
 use mathlib.Core.Bool.{Bool, true, false, _&&_}
 use mathlib.Core.List.{List}
-use mathlib.Core.Option.{some, none}
+use mathlib.Core.Option.{Option, some, none}
 use mathlib.Core.Logic.{⊎-elim}
 use Prim.Native.Nat.{ℕ, _+_, _-_, _≤_, _<_, _^_}
 use native.Mathlib.Omega.{arith}
@@ -16,7 +16,7 @@ use mir.Val.{toZ, SFits}
 use Rattle.lists.proofs.Tests.{and-left, and-right, le-or-lt}
 use Rattle.codec.specs.Numbers.{spelled}
 use Rattle.codec.specs.Fields.{framed}
-use Rattle.codec.specs.Format.{Value, when, num, int, Item, field, tagged, one, opt, ReadAt}
+use Rattle.codec.specs.Format.{Value, when, num, int, Item, field, tagged, malformed, one, opt, ReadAt, StoppedAt}
 use Rattle.codec.proofs.Numbers.{framed-at, framed-short}
 use Rattle.codec.proofs.Values.{when-true}
 
@@ -81,12 +81,16 @@ pub small-fits : (m : ℕ) (z : ℤ) → m < 2 ^ 63 → natAbs z ≤ m → SFits
 small-fits m (pos k) h f = record { sfits = omega arith }
 small-fits m (negsuc k) h f = record { sfits = omega arith }
 
--- a field that may be left out, read at a position
-pub opt-some : {A : Type 0} (tag : ℕ) (v : Value A) (d : A) (is : A → Bool) (s : List ℕ) (at : ℕ) (a : A) (next : ℕ) → at ≤ length s → at + (3 + v .len) ≡ next → field tag v (drop at s) ≡ some a → ReadAt (opt (tagged tag v) d is) s at a next
-opt-some tag v d is s at a next h n e = record { is = rw (e, drop-more (3 + v .len) at next s n); inside = omega (arith, field-room tag v s at a h e) }
+-- a field that may be left out, read at a position: it is there, it is left out, or it has to be there and is not
+module _ {A : Type 0} (tag : ℕ) (v : Value A) (d : Option A) (is : A → Bool) (s : List ℕ) (at : ℕ) where
+  pub opt-some : (a : A) (next : ℕ) → at ≤ length s → at + (3 + v .len) ≡ next → field tag v (drop at s) ≡ some a → ReadAt (opt (tagged tag v) d is) s at a next
+  opt-some a next h n e = record { is = rw (e, drop-more (3 + v .len) at next s n); inside = omega (arith, field-room tag v s at a h e) }
 
-pub opt-none : {A : Type 0} (tag : ℕ) (v : Value A) (d : A) (is : A → Bool) (s : List ℕ) (at : ℕ) → at ≤ length s → field tag v (drop at s) ≡ none → ReadAt (opt (tagged tag v) d is) s at d at
-opt-none tag v d is s at h e = record { is = rw e; inside = h }
+  pub opt-none : {x : A} → d ≡ some x → at ≤ length s → field tag v (drop at s) ≡ none → ReadAt (opt (tagged tag v) d is) s at x at
+  opt-none k h e = record { is = rw (e, k); inside = h }
+
+  pub opt-missing : d ≡ none → at ≤ length s → field tag v (drop at s) ≡ none → StoppedAt (opt (tagged tag v) d is) s at malformed at
+  opt-missing k h e = record { is = rw (e, k); inside = h }
 
 pub one-some : {A : Type 0} (tag : ℕ) (v : Value A) (s : List ℕ) (at : ℕ) (a : A) (next : ℕ) → at ≤ length s → at + (3 + v .len) ≡ next → field tag v (drop at s) ≡ some a → ReadAt (one (tagged tag v)) s at a next
 one-some tag v s at a next h n e = record { is = rw (e, drop-more (3 + v .len) at next s n); inside = omega (arith, field-room tag v s at a h e) }

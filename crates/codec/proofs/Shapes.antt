@@ -1,23 +1,22 @@
 -- Small formats of the shapes that the parts allow, with their laws: a value with a last byte that is left out where it is 1;
--- values under two tags, each kept or refused by a rule; a field that is required by what was read before it. Assumes nothing.
-use mathlib.Core.Path.{_≡_, refl}
-use mathlib.Core.Bool.{Bool, true, false, not, _&&_}
+-- values under two tags, each kept or refused by a rule. Assumes nothing.
+use mathlib.Core.Path.{refl}
+use mathlib.Core.Bool.{Bool, not, _&&_}
 use mathlib.Core.List.{List}
 use Prim.Native.Nat.{ℕ, suc, _<_}
 use native.Mathlib.Nat.{le-refl}
 use native.Mathlib.Omega.{arith}
 use lib.Dec.{eqb}
-use borrow.Author.Tests.{eq-eqb, eqb-true, ne-eqb}
+use borrow.Author.Tests.{eq-eqb, ne-eqb}
 use Rattle.lists.proofs.Tests.{and-left, not-yes}
-use Rattle.codec.specs.Format.{Value, num, pair, restricted, Item, tagged, Codec, malformed, one, many, both}
+use Rattle.codec.specs.Format.{Value, num, pair, restricted, Item, tagged, many}
 use Rattle.codec.specs.Shapes.{beside, either, twoTags, every}
-use Rattle.codec.specs.Theorems.{requiredIf}
 use Rattle.codec.proofs.Values.{ValueLaws, num-laws, pair-laws, restricted-laws}
 use Rattle.codec.proofs.Items.{ItemLaws, tagged-laws}
 use Rattle.codec.proofs.Found.{restricted-passes}
-use Rattle.codec.proofs.Formats.{Lawful, one-lawful, opt-lawful, both-lawful}
-use Rattle.codec.proofs.Places.{Placed, Numbered, one-placed, opt-placed, both-placed, one-numbered, opt-numbered, both-numbered}
-use Rattle.codec.proofs.Either.{beside-is, beside-laws, lengths-apart, tags-apart, either-laws, required-if-lawful, required-if-placed, required-if-numbered}
+use Rattle.codec.proofs.Formats.{Lawful}
+use Rattle.codec.proofs.Places.{Placed}
+use Rattle.codec.proofs.Either.{beside-is, beside-laws, lengths-apart, tags-apart, either-laws}
 use Rattle.codec.proofs.Every.{every-lawful, every-placed, many-lawful, many-placed}
 
 -- ---- a last byte that is left out where it is 1; what may stand can depend on those before it
@@ -67,40 +66,3 @@ module _ {A : Type 0} (tag : ℕ) (v : Value A) (l : ValueLaws v) (short : v .le
 
   pub two-tags-placed : (rule : List (A × ℕ) → A × ℕ → ℕ) → Placed (every (λ before. twoTags tag v) rule)
   two-tags-placed rule = every-placed (λ before. twoTags tag v) rule (λ before. two-tags-laws)
-
--- ---- a number first, by which the field after it is required or may be absent for 0
-abbrev number : ℕ → ℕ → Item ℕ
-number tag lo = tagged tag (num 1 lo 255)
-
-number-laws : (tag lo : ℕ) → ItemLaws (number tag lo)
-number-laws tag lo = tagged-laws tag (num 1 lo 255) (omega arith) (num-laws 1 lo 255 (omega arith))
-
-zero-apart : (k : ℕ) → num 1 1 255 .fine k ≡ true → eqb k 0 ≡ false
-zero-apart k h = ne-eqb k 0 (λ e. let f : num 1 1 255 .fine 0 ≡ true = rw e at h in let z : _≡_ {A = ℕ} 0 1 = cc in omega arith)
-
-module _ (must : ℕ → Bool) where
-  abbrev second : ℕ → Codec ℕ
-  second n = requiredIf (must n) (number 2 0) (number 2 1) 0 (λ k. eqb k 0)
-
-  second-lawful : (n : ℕ) → Lawful (second n) 2 3
-  second-lawful n =
-      required-if-lawful (number 2 0) (number 2 1) 0 (λ k. eqb k 0) (must n) (one-lawful (number 2 0) (number-laws 2 0))
-      (opt-lawful (number 2 1) (number-laws 2 1) 0 (λ k. eqb k 0) refl (λ k h. eqb-true k 0 h) zero-apart)
-
-  second-placed : (n : ℕ) → Placed (second n)
-  second-placed n =
-      required-if-placed (number 2 0) (number 2 1) 0 (λ k. eqb k 0) (must n) (one-placed (number 2 0) (number-laws 2 0) 1 refl)
-      (opt-placed (number 2 1) (number-laws 2 1) 0 (λ k. eqb k 0) refl)
-
-  pub required-by-lawful : Lawful (both (one (number 1 1)) second) 1 3
-  required-by-lawful = both-lawful (one (number 1 1)) second 1 2 3 (one-lawful (number 1 1) (number-laws 1 1)) second-lawful
-
-  pub required-by-placed : Placed (both (one (number 1 1)) second)
-  required-by-placed =
-      both-placed (one (number 1 1)) second 1 2 (one-lawful (number 1 1) (number-laws 1 1)) (one-placed (number 1 1) (number-laws 1 1) 1 refl) second-placed
-
-  -- it gives 13 alone
-  pub required-by-numbered : Numbered (both (one (number 1 1)) second) malformed
-  required-by-numbered =
-      both-numbered (one (number 1 1)) second (one-numbered (number 1 1) (number-laws 1 1))
-      (λ n. required-if-numbered (number 2 0) (number 2 1) 0 (λ k. eqb k 0) (must n) (one-numbered (number 2 0) (number-laws 2 0)) (opt-numbered (number 2 1) (number-laws 2 1) 0 (λ k. eqb k 0)))

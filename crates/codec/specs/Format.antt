@@ -116,16 +116,21 @@ need f bs none = stopped malformed bs
 abbrev pub one : {A : Type 0} → Item A → Codec A
 one f = record { read = λ bs. need f bs (f .look bs); write = f .text; ok = f .fine }
 
--- a field that is left out for d, and for d alone: the test is true of d and of nothing else
-abbrev pub orElse : {A : Type 0} → Item A → A → List ℕ → Option A → Res A
+-- a field that is left out for the value that d has, and for it alone: the test is true of that value and of nothing else.
+-- Where d has none the field has to be there
+abbrev pub absent : {A : Type 0} → Option A → List ℕ → Res A
+absent (some d) bs = got d bs
+absent none bs = stopped malformed bs
+
+abbrev pub orElse : {A : Type 0} → Item A → Option A → List ℕ → Option A → Res A
 orElse f d bs (some a) = got a (drop (f .size a) bs)
-orElse f d bs none = got d bs
+orElse f d bs none = absent d bs
 
 abbrev pub unless : Bool → List ℕ → List ℕ
 unless true bs = []
 unless false bs = bs
 
-abbrev pub opt : {A : Type 0} → Item A → A → (A → Bool) → Codec A
+abbrev pub opt : {A : Type 0} → Item A → Option A → (A → Bool) → Codec A
 opt f d is = record { read = λ bs. orElse f d bs (f .look bs); write = λ a. unless (is a) (f .text a); ok = λ a. is a || f .fine a }
 
 -- at most n fields, in their order: what one may hold can depend on those before it

@@ -1,12 +1,12 @@
 -- Bytes, whole fields, how many bytes fields that repeat have, which bytes are a message, and the place of a refusal. No contract is stated by these definitions; theorems speak by them.
-use mathlib.Core.Bool.{Bool, false, true, cond}
+use mathlib.Core.Bool.{Bool, false, true}
 use mathlib.Core.List.{List, [], _∷_, _++_}
 use mathlib.Core.Path.{_≡_}
 use Prim.Native.Nat.{ℕ, _+_, _≤_, _<_}
 use lib.Dec.{eqb}
 use lib.ListN.{getD, length, take, drop}
 use Rattle.lists.specs.Lists.{all}
-use Rattle.codec.specs.Format.{Item, Codec, one, opt}
+use Rattle.codec.specs.Format.{Item, Codec}
 use Rattle.codec.specs.Numbers.{spelled}
 
 -- a list of bytes
@@ -29,10 +29,6 @@ joined (f ∷ fs) = f ++ joined fs
 unfoldable pub sizes : {A : Type 0} → (List A → Item A) → List A → List A → ℕ
 sizes f before [] = 0
 sizes f before (a ∷ l) = f before .size a + sizes f (before ++ (a ∷ [])) l
-
--- a field that has to be there, or is left out for d, as the test says
-abbrev pub requiredIf : {A : Type 0} → Bool → Item A → Item A → A → (A → Bool) → Codec A
-requiredIf must f g d is = cond must (one f) (opt g d is)
 
 -- ---- which bytes are the message of a value
 -- the format writes these bytes for what it may write, and the value and its parts are made of each other

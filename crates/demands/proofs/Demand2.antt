@@ -65,10 +65,10 @@ use Rattle.floats.proofs.Pounds.{out-and-back}
 use Rattle.workbook_cells.proofs.RoundTrip.{reads-back, comes-out}
 use Rattle.return_format.specs.declared.Return.{Return}
 use Rattle.return_format.specs.Return.{mostBytes, Reading, whole, refused, readingOf, isRefused, placeIn, returnOf, writeRows}
-use Rattle.return_round_trip.specs.Flat.{fieldsOf}
+use Rattle.return_round_trip.specs.Flat.{fieldsOf, Factored}
 use Rattle.return_round_trip.specs.Places.{RefusalPlace}
 use Rattle.return_round_trip.proofs.Places.{return-accepted, accepted-return, same-bytes, refusal-place, place-alone, longer-refused, one-place}
-use Rattle.return_round_trip.proofs.Flat.{flat, flat-whole, tags-ascend}
+use Rattle.return_round_trip.proofs.Flat.{flat, flat-whole, tags-ascend, factors-said}
 use Rattle.return_reading.specs.Reading.{ReturnGives}
 use Rattle.refusals.specs.declared.Written.{Written}
 use Rattle.refusals.specs.declared.Written.the-variants.{Length}
@@ -77,7 +77,7 @@ use Rattle.refusals.proofs.Writing.{written-answers}
 use Rattle.return_refiling.specs.Refiled.{refileRows, RefileGives}
 use Rattle.demands.specs.Demand2.{IsLevel, Carried, NearSums, Demand2}
 use Rattle.demands.proofs.Lost.{first-is, end-is, year-lost, year-most}
-use Rattle.demands.proofs.Returns.{written-reads-back, read-writes-back}
+use Rattle.demands.proofs.Returns.{written-reads-back, written-length, read-writes-back}
 use Rattle.demands.proofs.PlanMessages.{plan-reads-back, plan-is, is-read, plan-writes-back, plan-refused-at, plan-one-of-three, plan-longer-is, plan-alone}
 use Rattle.demands.proofs.Workbooks.{made-exact, same-gap, filled-figures}
 use Rattle.demands.proofs.Sheets.{sheet-is, sheet-reads-back, sheet-writes-back, sheet-refused-at, sheet-not-longer, sheet-cut-same}
@@ -280,6 +280,8 @@ demand-2 = record {
   whole-fields = flat-whole;
   flat = flat-is;
   tags = λ bs b t g n. tags-ascend bs b (sym (g .0) ∙ n);
+  factored = λ bs b t g n fields w e. subst (λ (y : Year). Factored y fields) (sym (g .2)) (factors-said bs b (sym (g .0) ∙ n) fields w e);
+  lengths = written-length;
   place = λ bs b t g n h. place-there bs t g (readingOf bs) refl b n h;
   one-place = one-place;
   longer = longer-is;

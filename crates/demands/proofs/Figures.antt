@@ -2,13 +2,14 @@
 use mathlib.Core.Path.{_≡_, refl, sym, ap, _∙_}
 use mathlib.Core.Bool.{Bool, true, false, cond, not, _&&_}
 use mathlib.Core.List.{[], _∷_, List, map}
+use mathlib.Core.Option.{some}
 use Prim.Native.Nat.{ℕ, _+_, _-_, _*_, suc, _/_}
 use native.Mathlib.Omega.{arith}
 use lib.Dec.{leb, eqb, leb·zero, lit≤}
 use lib.IntN.{ℤ, pos, negsuc, negℤ}
 use lib.ListN.{getD}
 use Rattle.lists.proofs.Tests.{and-made}
-use Rattle.refusals.specs.Refusals.{firstApplicable}
+use Rattle.refusals.specs.Refusals.{firstApplicable, answerNumber}
 use Rattle.refusals.specs.declared.Refusal.the-variants.{TooLarge, BadPeriod}
 use Rattle.money.specs.Rounding.{upOf, roundDiv, onMagnitude, roundZ}
 use Rattle.calendar.specs.Years.{daysTo, yearStart, yearEnd}
@@ -18,6 +19,7 @@ use Rattle.outage.proofs.LogHolding.{log-holding-valid}
 use Rattle.outage.specs.declared.Log.{Log}
 use Rattle.outage.specs.Log.{logEntries, validLog, lastRegimeEnd, mostMw}
 use Rattle.entries.proofs.Minutes.{by-minutes, energyOf}
+use Rattle.year.specs.declared.Year.{Year}
 use Rattle.year.specs.Year.{goodYear}
 use Rattle.levels.specs.Book.{publishedBook, goodBook, targetOf}
 use Rattle.levels.specs.Availability.{availabilityIn, meetsTarget, availabilityRows, targetGiven, TargetGives}
@@ -40,7 +42,15 @@ use Rattle.settlement.proofs.Only.{only-gap, only-growth, only-pay}
 use Rattle.settlement.specs.declared.medians.Gap.the-variants as gap
 use Rattle.settlement.specs.declared.table.Growth.the-variants as growth
 use Rattle.settlement.specs.declared.paying.Payment.the-variants as payment
-use Rattle.demands.specs.Figures.{outage, outFor, noOutage, wholeYear, bookWith, euroLine, fiveYears, FiveFigures, MarkedFigures}
+use Rattle.codec.specs.Numbers.{spelled}
+use Rattle.codec.specs.Fields.{framed}
+use Rattle.codec.specs.Format.{field, scan}
+use Rattle.codec.specs.Message.{reading}
+use Rattle.return_format.specs.declared.Return.{Return}
+use Rattle.return_format.specs.Form.{leftOut, form}
+use Rattle.return_format.specs.Return.{readRows, readPlace, readYear}
+use Rattle.return_reading.specs.Reading.{ReturnGives}
+use Rattle.demands.specs.Figures.{outage, outFor, noOutage, wholeYear, bookWith, shortReturn, euroLine, fiveYears, FiveFigures, MarkedFigures}
 
 -- ---- the logs keep every rule
 none-out-valid : validLog noOutage ≡ true
@@ -214,6 +224,38 @@ cut-back k n e h = ap (λ (x : ℕ). negℤ (pos (suc k * x / 1000000000))) h
 pays-back : PayGives (negℤ (pos 10000001)) 100 (payment.Pounds (negℤ (pos 10388001)))
 pays-back = (refl, sym (cut-back 10000000 100 1038800000 entry-100))
 
+-- ---- returns without factors
+first-days : yearEnd 1 lastRegimeEnd ≡ 335 * 1440
+unfolding yearStart
+first-days = refl
+
+part-year : leftOut 1 ≡ some (roundDiv (335 * 10000) 365, roundDiv (335 * 10000) 365)
+unfolding roundDiv upOf
+part-year = refl
+
+-- an accepted return, and both of its year's factors
+abbrev Part : List ℕ → ℕ → Type 0
+Part bs part = (firstApplicable (readRows bs) ≡ 0) × (readYear bs .pyc ≡ part) × (readYear bs .pyf ≡ part)
+
+part-read : (bs : List ℕ) (part : ℕ) → Part bs part → (r : Return) → ReturnGives bs r → (answerNumber (r .answer) ≡ 0) × (r .year .pyc ≡ part) × (r .year .pyf ≡ part)
+part-read bs part p r g = (g .0 ∙ p .0, ap (λ (y : Year). y .pyc) (g .2) ∙ p .1, ap (λ (y : Year). y .pyf) (g .2) ∙ p .2)
+
+first-part : Part (shortReturn 1) 9178
+unfolding reading form field framed spelled scan
+first-part = (refl, refl, refl)
+
+second-part : Part (shortReturn 2) 10000
+unfolding reading form field framed spelled scan
+second-part = (refl, refl, refl)
+
+later-part : Part (shortReturn 24) 10000
+unfolding reading form field framed spelled scan
+later-part = (refl, refl, refl)
+
+no-last-part : (firstApplicable (readRows (shortReturn 25)) ≡ 13) × (readPlace (shortReturn 25) ≡ 23)
+unfolding reading form field framed spelled scan
+no-last-part = (refl, refl)
+
 -- ---- all of them
 -- equal lists are equal place by place
 place : (i : ℕ) {xs ys : List ℤ} → xs ≡ ys → getD xs i (pos 0) ≡ getD ys i (pos 0)
@@ -252,4 +294,10 @@ marked = record {
   pays-back = λ r g. only-pay (negℤ (pos 10000001)) 100 r (payment.Pounds (negℤ (pos 10388001))) g pays-back;
   euros = converted;
   euros-back = converted-back;
+  first-days = first-days;
+  part-year = part-year;
+  first-left-out = part-read (shortReturn 1) 9178 first-part;
+  second-left-out = part-read (shortReturn 2) 10000 second-part;
+  later-left-out = part-read (shortReturn 24) 10000 later-part;
+  last-left-out = λ r g. (g .0 ∙ no-last-part .0, g .1 ∙ no-last-part .1);
 }

@@ -4,6 +4,7 @@ use mathlib.Core.Path.{_≡_, sym, ap, _∙_}
 use mathlib.Core.Bool.{Bool, true, cond}
 use mathlib.Core.List.{List, _++_}
 use Prim.Native.Nat.{ℕ, _≤_}
+use native.Mathlib.Omega.{arith}
 use borrow.Author.Tests.{eq-eqb, le-ltb}
 use lib.ListN.{length, take, drop}
 use lib.Seq.{take-at}
@@ -24,21 +25,34 @@ use Rattle.refusals.specs.declared.Written.the-variants.{Length}
 use Rattle.refusals.proofs.Cases.{same-case}
 use Rattle.refusals.proofs.Writing.{written-answers}
 use Rattle.return_writing.specs.Written.{WriteGives}
-use Rattle.return_round_trip.proofs.RoundTrip.{written-read, accepted-whole, read-written}
+use Rattle.return_round_trip.proofs.RoundTrip.{fits, written-read, accepted-whole, read-written}
+use Rattle.return_round_trip.specs.Flat.{longest, shortest}
 
--- A year, with its 64 line slots and 400 entry slots, that was written: what was written reads back as the year.
-module _ (y : Year) (row : length (y .lines) ≡ lineSlots) (slotted : length (y .log .entries) ≡ slots) where
-  pub written-reads-back : (out o : List ℕ) (n : ℕ) → WriteGives y out (Length n) o → (t : Return) → ReturnGives (take n o) t → t ≡ record { answer = Done; place = 0; year = y }
-  written-reads-back out o n g t r =
+-- A year, with its 64 line slots and 400 entry slots, that was written.
+module _ (y : Year) (row : length (y .lines) ≡ lineSlots) (slotted : length (y .log .entries) ≡ slots) (out o : List ℕ) (n : ℕ) (g : WriteGives y out (Length n) o) where
+  yes : accepted (writeRows y (length out)) ≡ true
+  yes = eq-eqb (firstApplicable (writeRows y (length out))) 0 (sym (g .0))
+
+  valid : validYear y ≡ true
+  valid =
       let clear = all-clear (writeRows y (length out)) (sym (g .0)) in
-      let yes : accepted (writeRows y (length out)) ≡ true = eq-eqb (firstApplicable (writeRows y (length out))) 0 (sym (g .0)) in
-      let valid : validYear y ≡ true = and-made (not-no (validLog (y .log)) (clear .0)) (not-no (writable y) (clear .1 .0)) in
-      let long : n ≡ length (returnOf y) = g .1 ∙ ap (λ (b : Bool). cond b (length (returnOf y)) 0) yes in
+      and-made (not-no (validLog (y .log)) (clear .0)) (not-no (writable y) (clear .1 .0))
+
+  long : n ≡ length (returnOf y)
+  long = g .1 ∙ ap (λ (b : Bool). cond b (length (returnOf y)) 0) yes
+
+  -- what was written reads back as the year
+  pub written-reads-back : (t : Return) → ReturnGives (take n o) t → t ≡ record { answer = Done; place = 0; year = y }
+  written-reads-back t r =
       let is : o ≡ returnOf y ++ drop (length (returnOf y)) out = g .2 ∙ ap (λ (b : Bool). cond b (returnOf y ++ drop (length (returnOf y)) out) out) yes in
       let front : take n o ≡ returnOf y = ap (take n) is ∙ take-at (returnOf y) (drop (length (returnOf y)) out) n (sym long) in
       let read : readingOf (take n o) ≡ whole y = ap readingOf front ∙ written-read y row slotted valid in
       only-read (take n o) t (record { answer = Done; place = 0; year = y }) r
       (sym (ap (λ (x : Reading). cond (isRefused x) 13 0) read), sym (ap placeIn read), sym (ap yearIn read))
+
+  -- and has as many bytes as a return of its year can have
+  pub written-length : (shortest (y .number) ≤ n) × (n ≤ longest)
+  written-length = let f = fits y row slotted valid in (omega (arith, long, f .1), omega (arith, long, f .0))
 
 -- A return that was read: where there is room, writing the year gives its own bytes, and nothing else changes.
 module _ (bs : List ℕ) (b : Bytes bs) where

@@ -83,7 +83,7 @@ use Rattle.sheet_reading.specs.Reading.{SheetGives}
 use Rattle.sheet_writing.specs.Written.{WriteSheetGives}
 use Rattle.return_format.specs.declared.Return.{Return}
 use Rattle.return_format.specs.Return.{mostBytes}
-use Rattle.return_round_trip.specs.Flat.{fieldsOf, Ordered}
+use Rattle.return_round_trip.specs.Flat.{fieldsOf, Ordered, Factored, longest, shortest}
 use Rattle.return_round_trip.specs.Places.{IsReturnOf, IsReturn, RefusalPlace}
 use Rattle.return_reading.specs.Reading.{ReturnGives}
 use Rattle.refusals.specs.declared.Written.{Written}
@@ -198,6 +198,12 @@ pub record Demand2 : Type 0 where
   -- rule 10.1: the order of fields in an accepted return
   pub tags : (bs : List ℕ) → Bytes bs → (t : Return) → ReturnGives bs t → answerNumber (t .answer) ≡ 0
       → (fields : List (List ℕ)) → all isWhole fields ≡ true → bs ≡ joined fields → Ordered fields
+  -- rule 10.2: field 05 is there exactly where the year's factors are not those that its return leaves out, and always in year 25
+  pub factored : (bs : List ℕ) → Bytes bs → (t : Return) → ReturnGives bs t → answerNumber (t .answer) ≡ 0
+      → (fields : List (List ℕ)) → all isWhole fields ≡ true → bs ≡ joined fields → Factored (t .year) fields
+  -- rule 10.6: no return that is written is longer than the longest, nor shorter than the shortest of its year
+  pub lengths : (y : Year) → length (y .lines) ≡ lineSlots → length (y .log .entries) ≡ slots → (out o : List ℕ) (n : ℕ) → WriteGives y out (Length n) o
+      → (shortest (y .number) ≤ n) × (n ≤ longest)
   -- ---- rules 10.4 and 10.5: the one place of a refused return
   pub place : (bs : List ℕ) → Bytes bs → (t : Return) → ReturnGives bs t → (answerNumber (t .answer) ≡ 0 → ⊥) → length bs ≤ mostBytes
       → RefusalPlace bs (t .place) × ((other : ℕ) → RefusalPlace bs other → other ≡ t .place)

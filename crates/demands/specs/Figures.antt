@@ -2,9 +2,13 @@
 use mathlib.Core.Path.{_≡_}
 use mathlib.Core.Bool.{true, false}
 use mathlib.Core.List.{List, [], _∷_, map}
-use Prim.Native.Nat.{ℕ, _+_}
+use mathlib.Core.Option.{some}
+use Prim.Native.Nat.{ℕ, _+_, _*_}
 use lib.IntN.{ℤ, pos, negℤ}
+use Rattle.refusals.specs.Refusals.{answerNumber}
 use Rattle.refusals.specs.declared.Refusal.the-variants.{TooLarge, BadPeriod}
+use Rattle.money.specs.Rounding.{roundDiv}
+use Rattle.calendar.specs.Years.{yearEnd}
 use Rattle.entries.specs.declared.Entry.{Entry}
 use Rattle.outage.specs.declared.Log.{Log}
 use Rattle.outage.specs.Log.{logHolding, lastRegimeEnd}
@@ -33,6 +37,9 @@ use Rattle.settlement.specs.declared.paying.Payment.{Payment}
 use Rattle.settlement.specs.declared.paying.Payment.the-variants as payment
 use Rattle.settlement.specs.Gap.{goodPeriod, daySum}
 use Rattle.settlement.specs.Calls.{GapGives, GrowthGives, PayGives}
+use Rattle.return_format.specs.declared.Return.{Return}
+use Rattle.return_format.specs.Form.{leftOut}
+use Rattle.return_reading.specs.Reading.{ReturnGives}
 
 -- the whole cable out for some minutes from a start on
 abbrev pub outage : ℕ → ℕ → Entry
@@ -78,6 +85,11 @@ bookWith pcl = record {
 -- a line of so many euros
 abbrev pub euroLine : ℤ → Line
 euroLine amount = record { kind = 10; currency = 1; amount = amount }
+
+-- rule 13.9: a return with its four required fields alone: index, rate and AIC of one
+abbrev pub shortReturn : ℕ → List ℕ
+shortReturn number =
+    1 ∷ 0 ∷ 1 ∷ number ∷ 2 ∷ 0 ∷ 4 ∷ 0 ∷ 0 ∷ 39 ∷ 16 ∷ 3 ∷ 0 ∷ 4 ∷ 0 ∷ 1 ∷ 134 ∷ 160 ∷ 4 ∷ 0 ∷ 2 ∷ 39 ∷ 16 ∷ []
 
 -- rule 13.4: five years alike but for W, which the second alone has
 abbrev pub five : {A : Type 0} → A → List A
@@ -144,3 +156,11 @@ pub record MarkedFigures : Type 0 where
   -- rule 13.8: euro lines that are halves in pounds, of either sign. No call converts alone, so this is of what every line is converted by
   pub euros : map (λ (z : ℤ). poundsOf 50000 (euroLine z)) (pos 1 ∷ pos 3 ∷ pos 5 ∷ []) ≡ pos 0 ∷ pos 2 ∷ pos 2 ∷ []
   pub euros-back : map (λ (z : ℤ). poundsOf 50000 (euroLine z)) (negℤ (pos 1) ∷ negℤ (pos 3) ∷ negℤ (pos 5) ∷ []) ≡ pos 0 ∷ negℤ (pos 2) ∷ negℤ (pos 2) ∷ []
+  -- rule 13.9: year 1 has 335 days, and its factors are 335 of 365, to nearest
+  pub first-days : yearEnd 1 lastRegimeEnd ≡ 335 * 1440
+  pub part-year : leftOut 1 ≡ some (roundDiv (335 * 10000) 365, roundDiv (335 * 10000) 365)
+  -- what a return means that leaves them out, in years 1, 2 and 24; in year 25 it is none
+  pub first-left-out : (r : Return) → ReturnGives (shortReturn 1) r → (answerNumber (r .answer) ≡ 0) × (r .year .pyc ≡ 9178) × (r .year .pyf ≡ 9178)
+  pub second-left-out : (r : Return) → ReturnGives (shortReturn 2) r → (answerNumber (r .answer) ≡ 0) × (r .year .pyc ≡ 10000) × (r .year .pyf ≡ 10000)
+  pub later-left-out : (r : Return) → ReturnGives (shortReturn 24) r → (answerNumber (r .answer) ≡ 0) × (r .year .pyc ≡ 10000) × (r .year .pyf ≡ 10000)
+  pub last-left-out : (r : Return) → ReturnGives (shortReturn 25) r → (answerNumber (r .answer) ≡ 13) × (r .place ≡ 23)

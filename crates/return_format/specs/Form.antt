@@ -1,6 +1,7 @@
 -- The format of the yearly return, as rule 10.2 has it.
-use mathlib.Core.Bool.{Bool, not, _&&_}
+use mathlib.Core.Bool.{Bool, false, cond, not, _&&_}
 use mathlib.Core.List.{List, [], _∷_, _++_}
+use mathlib.Core.Option.{Option, some, none}
 use Prim.Native.Nat.{ℕ}
 use lib.Dec.{leb, ltb, eqb}
 use lib.IntN.{ℤ, pos}
@@ -30,12 +31,17 @@ rateValue = num 4 1 200000
 abbrev pub aicValue : Value ℕ
 aicValue = num 2 0 20000
 
--- 05: the partial-year factors, and those that a return leaves out, and may not have
-abbrev pub leftOut : ℕ → ℕ × ℕ
-leftOut number = (10000, 10000)
+-- 05: the partial-year factors (SC2 22, 23), and those that a return leaves out, and may not have: in year 1 those of 335 days of
+-- 365, in years 2 to 24 those of a whole year, in year 25 none
+abbrev pub leftOut : ℕ → Option (ℕ × ℕ)
+leftOut number = cond (eqb number 1) (some (9178, 9178)) (cond (eqb number lastYear) none (some (10000, 10000)))
+
+abbrev pub areThese : Option (ℕ × ℕ) → ℕ × ℕ → Bool
+areThese none f = false
+areThese (some these) f = eqb (f .0) (these .0) && eqb (f .1) (these .1)
 
 abbrev pub isLeftOut : ℕ → ℕ × ℕ → Bool
-isLeftOut number f = eqb (f .0) (leftOut number .0) && eqb (f .1) (leftOut number .1)
+isLeftOut number f = areThese (leftOut number) f
 
 abbrev pub factorsValue : ℕ → Value (ℕ × ℕ)
 factorsValue number = restricted (λ f. not (isLeftOut number f)) (pair (num 2 0 10000) (num 2 0 10000))
@@ -80,6 +86,7 @@ lineItem before = tagged 6 lineValue
 abbrev pub entryItem : ℕ → List Entry → Item Entry
 entryItem number before = causedWhere (mayFollow number before) 7
 
+-- the factors: required in year 25
 abbrev pub factors : ℕ → Codec (ℕ × ℕ)
 factors number = opt (tagged 5 (factorsValue number)) (leftOut number) (isLeftOut number)
 
@@ -93,11 +100,11 @@ outages number = many (entryItem number) slots
 
 -- the mark: 1 where it is there, 0 where it is left out
 abbrev pub mark : Codec ℕ
-mark = opt (tagged 8 markValue) 0 (λ n. eqb n 0)
+mark = opt (tagged 8 markValue) (some 0) (λ n. eqb n 0)
 
 -- the adjustment: 0 where it is left out
 abbrev pub wpa : Codec ℤ
-wpa = opt (tagged 9 wpaValue) (pos 0) isNone
+wpa = opt (tagged 9 wpaValue) (some (pos 0)) isNone
 
 -- ---- the fields in their order
 -- the four required fields
@@ -111,17 +118,23 @@ required =
     both (one (tagged 3 rateValue)) (λ rate.
     one (tagged 4 aicValue))))
 
--- all that follows them in the return of a year
-abbrev pub BodyParts : Type 0
-BodyParts = (ℕ × ℕ) × (List Line × (List Entry × (ℕ × ℤ)))
+-- all that follows the factors in the return of a year
+abbrev pub TailParts : Type 0
+TailParts = List Line × (List Entry × (ℕ × ℤ))
 
-abbrev pub body : ℕ → Codec BodyParts
-body number =
-    both (factors number) (λ f.
+abbrev pub tail : ℕ → Codec TailParts
+tail number =
     both lines (λ l.
     both (outages number) (λ o.
     both mark (λ m.
-    wpa))))
+    wpa)))
+
+-- all that follows the required fields
+abbrev pub BodyParts : Type 0
+BodyParts = (ℕ × ℕ) × TailParts
+
+abbrev pub body : ℕ → Codec BodyParts
+body number = both (factors number) (λ f. tail number)
 
 abbrev pub Parts : Type 0
 Parts = RequiredParts × BodyParts

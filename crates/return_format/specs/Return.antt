@@ -1,6 +1,7 @@
 -- What reading and writing a return give: rules 10.3 to 10.7, 12.3 and 12.4.
 use mathlib.Core.Bool.{Bool, cond, not, _&&_}
 use mathlib.Core.List.{List, [], _∷_}
+use mathlib.Core.Option.{Option, some, none}
 use Prim.Native.Nat.{ℕ}
 use lib.Dec.{ltb, eqb}
 use lib.ListN.{length, take}
@@ -15,6 +16,8 @@ use Rattle.year.specs.Year.{freshYear, goodYear, lineSlots, zeroLine}
 use Rattle.codec.specs.Message as Message
 use Rattle.codec.specs.Message.{lengthIn, bufferIn}
 use Rattle.return_format.specs.declared.Return.{Return}
+use Rattle.return_format.specs.declared.LeftOut.{LeftOut}
+use Rattle.return_format.specs.declared.LeftOut.the-variants as L
 use Rattle.return_format.specs.Form.{Parts, form, startsIn}
 pub use Rattle.return_format.specs.Form.{leftOut, isLeftOut}
 pub use Rattle.codec.specs.Message.{whole, refused, isRefused, placeIn}
@@ -76,6 +79,11 @@ readPlace bs = placeIn (readingOf bs)
 
 abbrev pub readYear : List ℕ → Year
 readYear bs = yearIn (readingOf bs)
+
+-- the factors that a return leaves out as the call gives them
+abbrev pub leftOutAs : Option (ℕ × ℕ) → LeftOut
+leftOutAs none = L.Not
+leftOutAs (some f) = L.Are (record { pyc = f .0; pyf = f .1 })
 
 -- a refused reading as the call gives it
 abbrev pub refusedAt : ℕ → Return

@@ -3,7 +3,7 @@ use refusals::Answer;
 use refusals::Refusal;
 use year::Year;
 ghost use mathlib.Core.Path.{_≡_};
-ghost use Rattle.return_format.specs.Return.{isLeftOut, leftOut, refusedAt};
+ghost use Rattle.return_format.specs.Return.{isLeftOut, leftOut, leftOutAs, refusedAt};
 
 // A return as it was read: the answer, the place of a refusal, and the year, which is fresh beside a refusal.
 pub struct Return {
@@ -16,6 +16,12 @@ pub struct Return {
 pub struct Factors {
     pub pyc: u16,
     pub pyf: u16,
+}
+
+// The factors that a return leaves out, or that it leaves out none.
+pub enum LeftOut {
+    Are(Factors),
+    Not,
 }
 
 impl Return {
@@ -53,24 +59,40 @@ impl Return {
 }
 
 impl Factors {
-    // The factors that a return of this year leaves out.
-    pub fn left_out(number: u8) -> Factors
-        ensures { λ r. ⌜ (r .pyc ≡ leftOut number .0) × (r .pyf ≡ leftOut number .1) ⌝ }
+    // Those of the first year, 335 days of 365.
+    pub const FIRST_YEAR: u16 = 9_178;
+
+    pub const WHOLE_YEAR: u16 = Year::MOST_PARTIAL;
+
+    // The factors that a return of this year leaves out: rule 10.2.
+    pub fn left_out(number: u8) -> LeftOut
+        ensures { λ r. ⌜ r ≡ leftOutAs (leftOut number) ⌝ }
     {
-        Factors {
-            pyc: 10_000,
-            pyf: 10_000,
+        if number == Year::FIRST {
+            return LeftOut::Are(Factors {
+                pyc: Factors::FIRST_YEAR,
+                pyf: Factors::FIRST_YEAR,
+            });
         }
+        if number == Year::LAST {
+            return LeftOut::Not;
+        }
+        LeftOut::Are(Factors {
+            pyc: Factors::WHOLE_YEAR,
+            pyf: Factors::WHOLE_YEAR,
+        })
     }
 
     // Whether these are the factors that a return of this year leaves out.
     pub fn are_left_out(self, number: u8) -> bool
         ensures { λ r. ⌜ r ≡ isLeftOut number (self .pyc, self .pyf) ⌝ }
     {
-        let absent = Factors::left_out(number);
-        if self.pyc != absent.pyc {
+        let LeftOut::Are(these) = Factors::left_out(number) else {
+            return false;
+        };
+        if self.pyc != these.pyc {
             return false;
         }
-        self.pyf == absent.pyf
+        self.pyf == these.pyf
     }
 }

@@ -13,12 +13,14 @@ use Rattle.lists.proofs.Tests.{and-made}
 use Rattle.refusals.specs.declared.Answer.the-variants.{Done}
 use Rattle.year.specs.declared.Year.{Year}
 use Rattle.return_format.specs.declared.Return.{Return}
-use Rattle.return_format.specs.Form.{yearValue, pppiValue, rateValue, aicValue, Parts, required, form, body}
+use Rattle.return_format.specs.Form.{yearValue, pppiValue, rateValue, aicValue, Parts, required, form, factors, tail, body}
 use Rattle.return_format.specs.Return.{mostBytes, yearOf, whole, refused, readingOf, refusedAt}
 use Rattle.return_reading.specs.declared.Head.{Head}
-use Rattle.return_reading.specs.declared.Body.{Body}
+use Rattle.return_reading.specs.declared.Tail.{Tail}
+use Rattle.return_reading.specs.declared.fields.Factored.{Factored}
+use Rattle.return_reading.specs.declared.fields.FactorsFrom.the-variants as X
 use Rattle.return_reading.specs.declared.Required.the-variants as R
-use Rattle.return_reading.specs.Steps.{HeadRead, RequiredRead, BodyRead}
+use Rattle.return_reading.specs.Steps.{HeadRead, RequiredRead, FactorsRead, TailRead}
 use Rattle.return_reading.specs.Reading.{ReturnGives}
 use Rattle.codec.specs.Format.{field, tagged, Codec, malformed, one, both, ReadAt}
 use Rattle.codec.proofs.Positions.{field-range, one-some}
@@ -90,14 +92,14 @@ pub record Refuses (s : List ℕ) (place : ℕ) : Type 0 where
   pub is : readingOf s ≡ refused why place
 
 -- the year as the code puts it together
-abbrev made : Head → Body → Year
-made h b = record {
+abbrev made : Head → Factored → Tail → Year
+made h f b = record {
   number = h .number;
   pppi = h .pppi;
   rate = h .rate;
   aic = h .aic;
-  pyc = b .pyc;
-  pyf = b .pyf;
+  pyc = f .pyc;
+  pyf = f .pyf;
   lines = b .lines;
   «line_count» = b .«line_count»;
   exceptional = b .exceptional;
@@ -115,19 +117,30 @@ module _ (s : List ℕ) where
     unfolding form
     not-there place h = record { why = malformed; is = Steps.stopped-whole form yearOf mostBytes s few (first-stopped required (λ h. body (h .0)) h) }
 
-    module _ {h : Head} (hr : HeadRead s h) {b : Body} (br : BodyRead (h .number) s 23 b) where
+    module _ {h : Head} (hr : HeadRead s h) where
+      -- the factors are required and not there
+      pub no-factors : FactorsRead (h .number) s 23 X.Not → Refuses s 23
+      unfolding form
+      no-factors k =
+          record {
+            why = malformed;
+            is = Steps.stopped-whole form yearOf mostBytes s few
+                (then-stopped required (λ h. body (h .0)) (hr .at) (first-stopped (factors (h .number)) (λ f. tail (h .number)) k));
+          }
+
+    module _ {h : Head} (hr : HeadRead s h) {f : Factored} (fr : FactorsRead (h .number) s 23 (X.Are f)) {b : Tail} (br : TailRead (h .number) s (f .next) b) where
       abbrev parts : Parts
-      parts = ((h .number, (h .pppi, (h .rate, h .aic))), ((b .pyc, b .pyf), (br .read, (br .logged, (cond (b .exceptional) 1 0, b .wpa)))))
+      parts = ((h .number, (h .pppi, (h .rate, h .aic))), ((f .pyc, f .pyf), (br .read, (br .logged, (cond (b .exceptional) 1 0, b .wpa)))))
 
       all-read : ReadAt form s 0 parts (b .next)
       unfolding form
-      all-read = both-read required (λ h. body (h .0)) (hr .at) (br .at)
+      all-read = both-read required (λ h. body (h .0)) (hr .at) (both-read (factors (h .number)) (λ f. tail (h .number)) fr (br .at))
 
       -- bytes are left over
       pub left-over : b .next < length s → Refuses s (b .next)
       left-over k = record { why = malformed; is = Steps.left-over form yearOf mostBytes s few all-read k }
 
-      year-read : made h b ≡ yearOf parts
+      year-read : made h f b ≡ yearOf parts
       year-read = rw (br .lined, br .counted, br .stored, marked (b .exceptional))
         where
           marked : (e : Bool) → eqb (cond e 1 0) 1 ≡ e
@@ -135,7 +148,7 @@ module _ (s : List ℕ) where
           marked false = refl
 
       -- none are
-      pub none-left : length s ≤ b .next → readingOf s ≡ whole (made h b)
+      pub none-left : length s ≤ b .next → readingOf s ≡ whole (made h f b)
       none-left k = Steps.none-left form yearOf mostBytes s few all-read k ∙ ap whole (sym year-read)
 
   -- ---- what the call ensures

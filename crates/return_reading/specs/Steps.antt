@@ -15,15 +15,17 @@ use Rattle.codec.specs.Fields.{framed}
 use Rattle.codec.specs.Leaves.{Spells}
 use Rattle.codec.specs.Format.{Item, malformed, ReadAt, StoppedAt}
 use Rattle.outage_field.specs.Field.{causedWhere}
-use Rattle.return_format.specs.Form.{startsBetween, lines, outages, required, body}
+use Rattle.return_format.specs.Form.{startsBetween, factors, lines, outages, required, tail}
 use Rattle.return_reading.specs.declared.fields.Three.{Three}
 use Rattle.return_reading.specs.declared.fields.LineAt.{LineAt}
 use Rattle.return_reading.specs.declared.fields.LineAt.the-variants as L
 use Rattle.return_reading.specs.declared.fields.FactorsAt.{FactorsAt}
 use Rattle.return_reading.specs.declared.fields.FactorsAt.the-variants as F
+use Rattle.return_reading.specs.declared.fields.FactorsFrom.{FactorsFrom}
+use Rattle.return_reading.specs.declared.fields.FactorsFrom.the-variants as X
 use Rattle.return_reading.specs.declared.rows.Lines.{Lines}
 use Rattle.return_reading.specs.declared.rows.Outages.{Outages}
-use Rattle.return_reading.specs.declared.Body.{Body}
+use Rattle.return_reading.specs.declared.Tail.{Tail}
 use Rattle.return_reading.specs.declared.Head.{Head}
 use Rattle.return_reading.specs.declared.Required.{Required}
 use Rattle.return_reading.specs.declared.Required.the-variants as R
@@ -68,11 +70,16 @@ abbrev pub RequiredRead : List ℕ → Required → Type 0
 RequiredRead s (R.Are h) = HeadRead s h
 RequiredRead s (R.Not place) = StoppedAt required s 0 malformed place
 
+-- ---- the factors, or that they are required and not there
+abbrev pub FactorsRead : ℕ → List ℕ → ℕ → FactorsFrom → Type 0
+FactorsRead number s at (X.Are f) = ReadAt (factors number) s at (f .pyc, f .pyf) (f .next)
+FactorsRead number s at X.Not = StoppedAt (factors number) s at malformed at
+
 -- ---- all that follows them
-pub record BodyRead (number : ℕ) (s : List ℕ) (from : ℕ) (r : Body) : Type 0 where
+pub record TailRead (number : ℕ) (s : List ℕ) (from : ℕ) (r : Tail) : Type 0 where
   pub read : List Line
   pub logged : List Entry
   pub lined : r .lines ≡ padded lineSlots zeroLine read
   pub counted : r .«line_count» ≡ length read
   pub stored : r .log ≡ logHolding lastRegimeEnd logged
-  pub at : ReadAt (body number) s from ((r .pyc, r .pyf), (read, (logged, (cond (r .exceptional) 1 0, r .wpa)))) (r .next)
+  pub at : ReadAt (tail number) s from (read, (logged, (cond (r .exceptional) 1 0, r .wpa))) (r .next)

@@ -4,6 +4,7 @@ mod rows;
 
 use codec::FoundNumber;
 use codec::number_field;
+use fields::FactorsFrom;
 use fields::factors_from;
 use fields::mark_from;
 use fields::wpa_from;
@@ -20,13 +21,11 @@ ghost use Prim.Native.Nat.{_≤_};
 ghost use lib.ListN.{length};
 ghost use Rattle.calendar.specs.Years.{goodYearNumber};
 ghost use Rattle.return_format.specs.Return.{mostBytes};
-ghost use Rattle.return_reading.specs.Steps.{BodyRead, HeadRead, RequiredRead};
+ghost use Rattle.return_reading.specs.Steps.{HeadRead, RequiredRead, TailRead};
 ghost use Rattle.return_reading.specs.Reading.{ReturnGives};
 
-// What follows the four required fields, and where the next field starts.
-struct Body {
-    pyc: u16,
-    pyf: u16,
+// What follows the factors, and where the next field starts.
+struct Tail {
     lines: [Line; Year::LINES],
     line_count: usize,
     exceptional: bool,
@@ -35,20 +34,17 @@ struct Body {
     next: usize,
 }
 
-fn body_from(s: &[u8], from: usize, year: u8) -> Body
+fn tail_from(s: &[u8], from: usize, year: u8) -> Tail
     requires { ⌜ (from ≤ length (now s)) × (goodYearNumber year ≡ true) ⌝ }
-    ensures { λ r. ⌜ BodyRead year (now (s .entry)) from r ⌝ }
+    ensures { λ r. ⌜ TailRead year (now (s .entry)) from r ⌝ }
 {
-    let factored = factors_from(s, from, year);
-    let lined = lines_from(s, factored.next);
+    let lined = lines_from(s, from);
     let outages = outages_from(s, lined.next, year);
     let marked = mark_from(s, outages.next);
     let paid = wpa_from(s, marked.next);
     let lines = lined.lines;
     let log = outages.log;
-    Body {
-        pyc: factored.pyc,
-        pyf: factored.pyf,
+    Tail {
         lines,
         line_count: lined.count,
         exceptional: marked.exceptional,
@@ -121,28 +117,31 @@ fn required_of(s: &[u8]) -> Required
     })
 }
 
-// The return whose required fields are read.
+// The return whose four required fields are read.
 fn read_on(s: &[u8], h: Head) -> Return
     requires { ⌜ (length (now s) ≤ mostBytes) × HeadRead (now s) h ⌝ }
     ensures { λ r. ⌜ ReturnGives (now (s .entry)) r ⌝ }
 {
-    let body = body_from(s, Head::BYTES, h.number);
-    if body.next < s.len() {
-        return Return::refused(body.next);
+    let FactorsFrom::Are(f) = factors_from(s, Head::BYTES, h.number) else {
+        return Return::refused(Head::BYTES);
+    };
+    let tail = tail_from(s, f.next, h.number);
+    if tail.next < s.len() {
+        return Return::refused(tail.next);
     }
-    let lines = body.lines;
-    let log = body.log;
+    let lines = tail.lines;
+    let log = tail.log;
     let year = Year {
         number: h.number,
         pppi: h.pppi,
         rate: h.rate,
         aic: h.aic,
-        pyc: body.pyc,
-        pyf: body.pyf,
+        pyc: f.pyc,
+        pyf: f.pyf,
         lines,
-        line_count: body.line_count,
-        exceptional: body.exceptional,
-        wpa: body.wpa,
+        line_count: tail.line_count,
+        exceptional: tail.exceptional,
+        wpa: tail.wpa,
         log,
     };
     Return {

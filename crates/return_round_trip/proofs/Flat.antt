@@ -4,15 +4,17 @@ use mathlib.Core.Path.{_≡_, refl, sym, ap, subst, _∙_}
 use mathlib.Core.Bool.{Bool, true, false, cond, not, _&&_, _||_}
 use mathlib.Core.Logic.{_⊎_, inl, inr}
 use mathlib.Core.List.{List, [], _∷_, _++_, append-nil, append-assoc, map}
+use mathlib.Core.Option.{some, none}
 use Prim.Native.Nat.{ℕ, suc, _≤_, _<_}
 use native.Mathlib.Omega.{arith}
-use borrow.Author.Tests.{eq-eqb, leb-true, le-leb, lt-ltb, le-ltb}
+use borrow.Author.Tests.{eq-eqb, ne-eqb, leb-true, le-leb, lt-ltb, le-ltb}
 use lib.Dec.{leb, ltb, eqb}
 use lib.ListN.{take}
-use Rattle.lists.specs.Lists.{all, pairwise}
+use Rattle.lists.specs.Lists.{all, any, pairwise}
 use Rattle.lists.proofs.Tests.{and-left, and-right, and-made, le-or-lt}
 use Rattle.lists.proofs.Lists.{all-as}
 use Rattle.refusals.specs.Refusals.{firstApplicable}
+use Rattle.calendar.specs.Years.{lastYear}
 use Rattle.entries.specs.declared.Entry.{Entry}
 use Rattle.outage.specs.Log.{logEntries}
 use Rattle.year.specs.declared.Line.{Line}
@@ -24,9 +26,9 @@ use Rattle.codec.specs.Theorems.{isWhole, joined}
 use Rattle.codec.specs.Format.{fieldOf, unless, texts}
 use Rattle.codec.proofs.Fields.{joined-append, same-fields}
 use Rattle.money.specs.Pounds.{isNone}
-use Rattle.return_format.specs.Form.{yearValue, pppiValue, rateValue, aicValue, isLeftOut, markValue, lineItem, entryItem, body, form}
+use Rattle.return_format.specs.Form.{yearValue, pppiValue, rateValue, aicValue, areThese, isLeftOut, markValue, lineItem, entryItem, body, form}
 use Rattle.return_format.specs.Return.{partsOf, readRows, readYear, returnOf}
-use Rattle.return_round_trip.specs.Flat.{factorsField, lineField, outageField, markField, wpaField, present, fieldsOf, tagOf, mayPrecede, Ordered}
+use Rattle.return_round_trip.specs.Flat.{factorsField, lineField, outageField, markField, wpaField, present, bothAre, leavesFactors, fieldsOf, tagOf, mayPrecede, Ordered, hasFactors, Factored}
 use Rattle.return_round_trip.proofs.RoundTrip.{accepted-whole, read-written}
 
 -- ---- the bytes are the fields one after the other
@@ -54,17 +56,26 @@ parts-flat : {p q r s t : List ℕ} (a b c d e : List (List ℕ)) → p ≡ join
     → p ++ (q ++ (r ++ (s ++ t))) ≡ joined (a ++ (b ++ (c ++ (d ++ e))))
 parts-flat a b c d e f g h i j = simp joined-append cc
 
+left-out-flat : (y : Year) → isLeftOut (y .number) (y .pyc, y .pyf) ≡ leavesFactors y
+left-out-flat y = by (eqb (y .number) 1) (eqb (y .number) lastYear)
+  where
+    by : (first last : Bool) → areThese (cond first (some (9178, 9178)) (cond last none (some (10000, 10000)))) (y .pyc, y .pyf)
+        ≡ cond first (bothAre 9178 y) (cond last false (bothAre 10000 y))
+    by true last = refl
+    by false true = refl
+    by false false = refl
+
 pub flat : (y : Year) → returnOf y ≡ joined (fieldsOf y)
 unfolding returnOf form fieldOf head bytesOf joined factorsField wpaField fieldsOf
 flat y =
     let ls = take (y .«line_count») (y .lines) in
     let es = logEntries (y .log) in
-    let full = isLeftOut (y .number) (y .pyc, y .pyf) in
+    let out = leavesFactors y in
     let zero = isNone (y .wpa) in
     append-assoc (fieldOf 1 yearValue (y .number)) (fieldOf 2 pppiValue (y .pppi) ++ (fieldOf 3 rateValue (y .rate) ++ fieldOf 4 aicValue (y .aic))) (body (y .number) .write (partsOf y .1))
     ∙ ap (λ (m : List ℕ). fieldOf 1 yearValue (y .number) ++ (fieldOf 2 pppiValue (y .pppi) ++ (fieldOf 3 rateValue (y .rate) ++ (fieldOf 4 aicValue (y .aic) ++ m))))
-    (parts-flat (present (not full) (factorsField (y .pyc) (y .pyf))) (map lineField ls) (map outageField es) (present (y .exceptional) markField) (present (not zero) (wpaField (y .wpa)))
-    (unless-present full (factorsField (y .pyc) (y .pyf)))
+    (parts-flat (present (not out) (factorsField (y .pyc) (y .pyf))) (map lineField ls) (map outageField es) (present (y .exceptional) markField) (present (not zero) (wpaField (y .wpa)))
+    (ap (λ (b : Bool). unless b (factorsField (y .pyc) (y .pyf))) (left-out-flat y) ∙ unless-present out (factorsField (y .pyc) (y .pyf)))
     (lines-flat [] ls)
     (outages-flat (y .number) [] es)
     (mark-present (y .exceptional))
@@ -154,18 +165,28 @@ outage-field e = by (eqb (e .cause) 1)
     by true = (refl, refl)
     by false = (refl, refl)
 
+-- what follows the factors
+tailOf : Year → List (List ℕ)
+tailOf y =
+    map lineField (take (y .«line_count») (y .lines))
+    ++ (map outageField (logEntries (y .log)) ++ (present (y .exceptional) markField ++ present (not (isNone (y .wpa))) (wpaField (y .wpa))))
+
+rising-tail : (y : Year) → Rising 6 (tailOf y)
+unfolding isWhole spelled bytesOf lineField outageField markField wpaField tailOf
+rising-tail y =
+    rising-many 6 refl refl lineField (λ l. refl) (λ l. refl) (take (y .«line_count») (y .lines))
+    (rising-many 7 refl refl outageField (λ e. outage-field e .0) (λ e. outage-field e .1) (logEntries (y .log))
+    (rising-present 8 refl (y .exceptional) markField refl refl
+    (rising-last 9 refl (not (isNone (y .wpa))) (wpaField (y .wpa)) refl refl)))
+
 rising : (y : Year) → Rising 1 (fieldsOf y)
-unfolding isWhole spelled bytesOf factorsField lineField outageField markField wpaField fieldsOf
+unfolding isWhole spelled bytesOf factorsField fieldsOf tailOf
 rising y =
     rising-field 1 refl (1 ∷ 0 ∷ 1 ∷ bytesOf 1 (y .number)) refl refl
     (rising-field 2 refl (2 ∷ 0 ∷ 4 ∷ bytesOf 4 (y .pppi)) refl refl
     (rising-field 3 refl (3 ∷ 0 ∷ 4 ∷ bytesOf 4 (y .rate)) refl refl
     (rising-field 4 refl (4 ∷ 0 ∷ 2 ∷ bytesOf 2 (y .aic)) refl refl
-    (rising-present 5 refl (not (isLeftOut (y .number) (y .pyc, y .pyf))) (factorsField (y .pyc) (y .pyf)) refl refl
-    (rising-many 6 refl refl lineField (λ l. refl) (λ l. refl) (take (y .«line_count») (y .lines))
-    (rising-many 7 refl refl outageField (λ e. outage-field e .0) (λ e. outage-field e .1) (logEntries (y .log))
-    (rising-present 8 refl (y .exceptional) markField refl refl
-    (rising-last 9 refl (not (isNone (y .wpa))) (wpaField (y .wpa)) refl refl))))))))
+    (rising-present 5 refl (not (leavesFactors y)) (factorsField (y .pyc) (y .pyf)) refl refl (rising-tail y)))))
 
 pub flat-whole : (y : Year) → all isWhole (fieldsOf y) ≡ true
 flat-whole y = rising y .whole
@@ -175,13 +196,43 @@ flat-whole y = rising y .whole
 pub read-flat : (bs : List ℕ) → Bytes bs → firstApplicable (readRows bs) ≡ 0 → bs ≡ joined (fieldsOf (readYear bs))
 read-flat bs b h = sym (read-written bs (readYear bs) b (accepted-whole bs h) .0) ∙ flat (readYear bs)
 
--- cut into whole fields, which goes in one way only (`same-fields`), their tags ascend
-pub tags-ascend : (bs : List ℕ) → Bytes bs → firstApplicable (readRows bs) ≡ 0 → (fields : List (List ℕ)) → all isWhole fields ≡ true → bs ≡ joined fields → Ordered fields
-unfolding fieldsOf
-tags-ascend bs b h fields w e =
-    let y = readYear bs in
-    let r = rising y in
-    let same : fieldsOf y ≡ fields = same-fields (fieldsOf y) fields (r .whole) w (sym (read-flat bs b h) ∙ e) in
-    let o : Ordered (fieldsOf y) =
-    record { ascend = r .ascend; required = refl; known = all-as (from 1) (λ t. leb t 9) (map tagOf (fieldsOf y)) (r .known) (λ t k. and-right (leb 1 t) (leb t 9) k) } in
-    subst Ordered same o
+-- field 05 is there, or it is left out, as the year and its factors say
+has-factors : (y : Year) → hasFactors (fieldsOf y) ≡ not (leavesFactors y)
+unfolding factorsField fieldsOf tailOf
+has-factors y = by (leavesFactors y)
+  where
+    none-in : (tags : List ℕ) → all (from 6) tags ≡ true → any (λ t. eqb t 5) tags ≡ false
+    none-in [] h = refl
+    none-in (t ∷ tags) h =
+        rw (ne-eqb t 5 (λ e. omega (arith, lowest-tag 6 t (and-left (from 6 t) (all (from 6) tags) h)))) (none-in tags (and-right (from 6 t) (all (from 6) tags) h))
+
+    by : (b : Bool) → hasFactors (present (not b) (factorsField (y .pyc) (y .pyf)) ++ tailOf y) ≡ not b
+    by true = none-in (map tagOf (tailOf y)) (rising-tail y .known)
+    by false = refl
+
+-- cut into whole fields, which goes in one way only (`same-fields`)
+module _ (bs : List ℕ) (b : Bytes bs) (h : firstApplicable (readRows bs) ≡ 0) (fields : List (List ℕ)) (w : all isWhole fields ≡ true) (e : bs ≡ joined fields) where
+  abbrev y : Year
+  y = readYear bs
+
+  fields-are : fieldsOf y ≡ fields
+  fields-are = same-fields (fieldsOf y) fields (rising y .whole) w (sym (read-flat bs b h) ∙ e)
+
+  -- their tags ascend
+  pub tags-ascend : Ordered fields
+  unfolding fieldsOf
+  tags-ascend =
+      let r = rising y in
+      let o : Ordered (fieldsOf y) =
+      record { ascend = r .ascend; required = refl; known = all-as (from 1) (λ t. leb t 9) (map tagOf (fieldsOf y)) (r .known) (λ t k. and-right (leb 1 t) (leb t 9) k) } in
+      subst Ordered fields-are o
+
+  -- and 05 is among them as rule 10.2 says
+  pub factors-said : Factored y fields
+  factors-said =
+      let is : hasFactors fields ≡ not (leavesFactors y) = ap hasFactors (sym fields-are) ∙ has-factors y in
+      record {
+        first = λ n. rw (is, eq-eqb (y .number) 1 n);
+        between = λ lo hi. rw (is, ne-eqb (y .number) 1 (λ e. omega (arith, lo)), ne-eqb (y .number) 25 (λ e. omega (arith, hi)));
+        last = λ n. rw (is, ne-eqb (y .number) 1 (λ e. omega (arith, n)), eq-eqb (y .number) 25 n);
+      }

@@ -1,13 +1,14 @@
 -- The format of the return keeps the laws of its parts. Assumes nothing.
-use mathlib.Core.Path.{_≡_, refl, ap}
-use mathlib.Core.Bool.{true, false, not, _&&_}
+use mathlib.Core.Path.{_≡_, refl, sym, ap}
+use mathlib.Core.Bool.{Bool, true, false, not, _&&_, _||_}
 use mathlib.Core.List.{List}
+use mathlib.Core.Option.{Option, some, none}
 use Prim.Native.Nat.{ℕ, suc}
 use native.Mathlib.Omega.{arith}
-use borrow.Author.Tests.{eqb-true, leb-true}
+use borrow.Author.Tests.{eq-eqb, eqb-true, le-leb, leb-true}
 use lib.Dec.{leb, eqb}
 use lib.IntN.{ℤ, pos, negsuc, natAbs}
-use Rattle.lists.proofs.Tests.{and-left, and-right, not-yes}
+use Rattle.lists.proofs.Tests.{and-left, and-right, and-made, not-yes}
 use Rattle.entries.specs.declared.Entry.{Entry}
 use Rattle.outage.specs.Log.{slots}
 use Rattle.year.specs.declared.Line.{Line}
@@ -20,7 +21,7 @@ use Rattle.codec.proofs.Places.{Placed, Numbered, one-placed, opt-placed, both-
 use Rattle.codec.proofs.Every.{many-lawful, many-placed, many-numbered}
 use Rattle.money.specs.Pounds.{isNone}
 use Rattle.outage_field.proofs.Laws.{caused-laws}
-use Rattle.return_format.specs.Form.{yearValue, pppiValue, rateValue, aicValue, leftOut, isLeftOut, factorsValue, toLine, fromLine, lineLayout, lineValue, mayFollow, markValue, wpaValue, lineItem, entryItem, factors, mark, wpa, required, body, form}
+use Rattle.return_format.specs.Form.{yearValue, pppiValue, rateValue, aicValue, leftOut, areThese, isLeftOut, factorsValue, toLine, fromLine, lineLayout, lineValue, mayFollow, markValue, wpaValue, lineItem, entryItem, factors, mark, wpa, required, body, form}
 
 -- ---- values
 line-laws : ValueLaws lineValue
@@ -67,15 +68,23 @@ wpa-item : ItemLaws (tagged 9 wpaValue)
 wpa-item = tagged-laws 9 wpaValue (omega arith) wpa-laws
 
 -- ---- what is left out
-left-out-is : (number : ℕ) (f : ℕ × ℕ) → isLeftOut number f ≡ true → f ≡ leftOut number
-left-out-is number f h =
-    let e : f .0 ≡ leftOut number .0 = eqb-true (f .0) (leftOut number .0) (and-left (eqb (f .0) (leftOut number .0)) (eqb (f .1) (leftOut number .1)) h) in
-    let g : f .1 ≡ leftOut number .1 = eqb-true (f .1) (leftOut number .1) (and-right (eqb (f .0) (leftOut number .0)) (eqb (f .1) (leftOut number .1)) h) in
-    λ i. (e i, g i)
+these-are : (o : Option (ℕ × ℕ)) (f : ℕ × ℕ) → areThese o f ≡ true → o ≡ some f
+these-are none f h = absurd (let z : _≡_ {A = ℕ} 0 1 = cc in omega arith)
+these-are (some these) f h =
+    let e : these .0 ≡ f .0 = sym (eqb-true (f .0) (these .0) (and-left (eqb (f .0) (these .0)) (eqb (f .1) (these .1)) h)) in
+    let g : these .1 ≡ f .1 = sym (eqb-true (f .1) (these .1) (and-right (eqb (f .0) (these .0)) (eqb (f .1) (these .1)) h)) in
+    λ i. some (e i, g i)
+
+are-these : (o : Option (ℕ × ℕ)) (f : ℕ × ℕ) → o ≡ some f → areThese o f ≡ true
+are-these o f h = rw h (and-made (eq-eqb (f .0) (f .0) refl) (eq-eqb (f .1) (f .1) refl))
 
 pub none-is : (z : ℤ) → isNone z ≡ true → z ≡ pos 0
 none-is (pos k) h = ap pos (eqb-true k 0 h)
 none-is (negsuc k) h = absurd (omega (arith, eqb-true (suc k) 0 h))
+
+pub either-way : (a b : Bool) → (a ≡ false → b ≡ true) → (a || b) ≡ true
+either-way true b f = refl
+either-way false b f = f refl
 
 mark-fine : (n : ℕ) → (leb 1 n && leb n 1) ≡ true → eqb n 0 ≡ false
 mark-fine n h =
@@ -85,15 +94,22 @@ mark-fine n h =
 -- ---- the format
 factors-lawful : (number : ℕ) → Lawful (factors number) 5 6
 factors-lawful number =
-    opt-lawful (tagged 5 (factorsValue number)) (factors-item number) (leftOut number) (isLeftOut number) refl (left-out-is number)
+    opt-lawful (tagged 5 (factorsValue number)) (factors-item number) (leftOut number) (isLeftOut number) (are-these (leftOut number)) (these-are (leftOut number))
     (λ f h. not-yes (isLeftOut number f) (and-right (pair (num 2 0 10000) (num 2 0 10000) .fine f) (not (isLeftOut number f)) h))
 
+-- every pair in range may be written, or is left out
+pub factors-ok : (number pyc pyf : ℕ) → leb pyc 10000 ≡ true → leb pyf 10000 ≡ true → factors number .ok (pyc, pyf) ≡ true
+factors-ok number pyc pyf c f =
+    either-way (isLeftOut number (pyc, pyf)) (factorsValue number .fine (pyc, pyf))
+    (λ e. and-made (and-made (and-made (le-leb 0 pyc (omega arith)) c) (and-made (le-leb 0 pyf (omega arith)) f)) (ap not e))
+
 mark-lawful : Lawful mark 8 9
-mark-lawful = opt-lawful (tagged 8 markValue) mark-item 0 (λ n. eqb n 0) refl (λ n h. eqb-true n 0 h) mark-fine
+mark-lawful =
+    opt-lawful (tagged 8 markValue) mark-item (some 0) (λ n. eqb n 0) (λ n h. let e : 0 ≡ n = cc in eq-eqb n 0 (sym e)) (λ n h. ap some (sym (eqb-true n 0 h))) mark-fine
 
 wpa-lawful : Lawful wpa 9 10
 wpa-lawful =
-    opt-lawful (tagged 9 wpaValue) wpa-item (pos 0) isNone refl none-is
+    opt-lawful (tagged 9 wpaValue) wpa-item (some (pos 0)) isNone (λ z h. let e : pos 0 ≡ z = cc in rw (← e)) (λ z h. ap some (sym (none-is z h)))
     (λ z h. not-yes (isNone z) (and-right (leb (natAbs z) 1000000000) (not (isNone z)) h))
 
 required-lawful : Lawful required 1 5
@@ -124,11 +140,11 @@ required-placed =
 
 body-placed : (number : ℕ) → Placed (body number)
 body-placed number =
-    both-placed _ _ 5 6 (factors-lawful number) (opt-placed (tagged 5 (factorsValue number)) (factors-item number) (leftOut number) (isLeftOut number) refl) (λ f.
+    both-placed _ _ 5 6 (factors-lawful number) (opt-placed (tagged 5 (factorsValue number)) (factors-item number) (leftOut number) (isLeftOut number) (0, 0) (factors-ok number 0 0 refl refl)) (λ f.
     both-placed _ _ 6 7 (many-lawful lineItem line-item lineSlots 6 6 (λ before. refl) (λ before. refl)) (many-placed lineItem line-item lineSlots) (λ l.
     both-placed _ _ 7 8 (many-lawful (entryItem number) (entry-item number) slots 7 7 (λ before. refl) (λ before. refl)) (many-placed (entryItem number) (entry-item number) slots) (λ o.
-    both-placed _ _ 8 9 mark-lawful (opt-placed (tagged 8 markValue) mark-item 0 (λ n. eqb n 0) refl) (λ m.
-    opt-placed (tagged 9 wpaValue) wpa-item (pos 0) isNone refl))))
+    both-placed _ _ 8 9 mark-lawful (opt-placed (tagged 8 markValue) mark-item (some 0) (λ n. eqb n 0) 0 refl) (λ m.
+    opt-placed (tagged 9 wpaValue) wpa-item (some (pos 0)) isNone (pos 0) refl))))
 
 pub form-placed : Placed form
 unfolding form
@@ -147,8 +163,8 @@ body-numbered number =
     both-numbered _ _ (opt-numbered (tagged 5 (factorsValue number)) (factors-item number) (leftOut number) (isLeftOut number)) (λ f.
     both-numbered _ _ (many-numbered lineItem line-item lineSlots) (λ l.
     both-numbered _ _ (many-numbered (entryItem number) (entry-item number) slots) (λ o.
-    both-numbered _ _ (opt-numbered (tagged 8 markValue) mark-item 0 (λ n. eqb n 0)) (λ m.
-    opt-numbered (tagged 9 wpaValue) wpa-item (pos 0) isNone))))
+    both-numbered _ _ (opt-numbered (tagged 8 markValue) mark-item (some 0) (λ n. eqb n 0)) (λ m.
+    opt-numbered (tagged 9 wpaValue) wpa-item (some (pos 0)) isNone))))
 
 pub form-numbered : Numbered form malformed
 unfolding form

@@ -2,6 +2,7 @@
 use mathlib.Core.Path.{_≡_, refl, sym, ap, _∙_}
 use mathlib.Core.Bool.{Bool, true, false, cond, not, _&&_, _||_}
 use mathlib.Core.List.{List, [], _∷_, _++_, append-nil}
+use mathlib.Core.Option.{some, none}
 use Prim.Native.Nat.{ℕ, _≤_}
 use native.Mathlib.Omega.{arith}
 use borrow.Author.Tests.{eqb-true, leb-true, le-leb}
@@ -13,6 +14,7 @@ use Rattle.lists.specs.Lists.{all, padded}
 use Rattle.lists.proofs.Lists.{total-append}
 use Rattle.lists.proofs.Padded.{padded-front, padded-free, padded-back}
 use Rattle.lists.proofs.Tests.{and-left, and-right, and-made}
+use Rattle.calendar.specs.Years.{lastYear}
 use Rattle.entries.specs.declared.Entry.{Entry}
 use Rattle.outage.specs.Log.{slots, lastRegimeEnd, goodEntry, validEntries, rowOf, validLog, logEntries, logHolding}
 use Rattle.entries.specs.Row.{ahead, inOrder, lostBy}
@@ -27,9 +29,9 @@ use Rattle.year.proofs.Says.{line-says, LinesSay, lines-say, YearSays, year-say
 use Rattle.codec.specs.Format.{num, pair, allFine}
 use Rattle.money.specs.Pounds.{isNone}
 use Rattle.outage_field.proofs.Laws.{caused-fine, where-passes}
-use Rattle.return_format.specs.Form.{yearValue, pppiValue, rateValue, aicValue, isLeftOut, factorsValue, lineLayout, lineValue, startsIn, mayFollow, wpaValue, lineItem, entryItem, factors, lines, outages, mark, wpa, Parts, required, form}
+use Rattle.return_format.specs.Form.{yearValue, pppiValue, rateValue, aicValue, areThese, isLeftOut, factorsValue, lineLayout, lineValue, startsIn, mayFollow, wpaValue, lineItem, entryItem, factors, lines, outages, mark, wpa, Parts, required, form}
 use Rattle.return_format.specs.Return.{yearOf, partsOf, logFits, writable, validYear}
-use Rattle.return_round_trip.proofs.Lawful.{none-is}
+use Rattle.return_round_trip.proofs.Lawful.{none-is, either-way, factors-ok}
 
 -- ---- the parts of what the format may write
 pub record Fine (p : Parts) : Type 0 where
@@ -140,10 +142,6 @@ module _ (number : ℕ) where
       (and-made (and-left (startsIn number e) w m) (r .0), ap (validEntries lastRegimeEnd) (sym (append-snoc before e es)) ∙ r .1)
 
 -- ---- the other parts
-either-way : (a b : Bool) → (a ≡ false → b ≡ true) → (a || b) ≡ true
-either-way true b f = refl
-either-way false b f = f refl
-
 left-or-right : (a b : Bool) {X : Type 0} → (a || b) ≡ true → (a ≡ true → X) → (b ≡ true → X) → X
 left-or-right true b h f g = f refl
 left-or-right false b h f g = g h
@@ -152,18 +150,25 @@ pub or-second : (a b : Bool) → (a || b) ≡ true → a ≡ false → b ≡ tru
 or-second true b h e = cc
 or-second false b h e = h
 
-factors-ok : (number pyc pyf : ℕ) → leb pyc 10000 ≡ true → leb pyf 10000 ≡ true → factors number .ok (pyc, pyf) ≡ true
-factors-ok number pyc pyf c f =
-    either-way (isLeftOut number (pyc, pyf)) (factorsValue number .fine (pyc, pyf))
-    (λ e. and-made (and-made (and-made (le-leb 0 pyc (omega arith)) c) (and-made (le-leb 0 pyf (omega arith)) f)) (ap not e))
+-- the factors that a year leaves out are in range
+left-out-small : (number : ℕ) (f : ℕ × ℕ) → isLeftOut number f ≡ true → (f .0 ≤ 10000) × (f .1 ≤ 10000)
+left-out-small number f h = by (eqb number 1) (eqb number lastYear) h
+  where
+    same : (k : ℕ) → k ≤ 10000 → (eqb (f .0) k && eqb (f .1) k) ≡ true → (f .0 ≤ 10000) × (f .1 ≤ 10000)
+    same k m e =
+        let a : f .0 ≡ k = eqb-true (f .0) k (and-left (eqb (f .0) k) (eqb (f .1) k) e) in
+        let b : f .1 ≡ k = eqb-true (f .1) k (and-right (eqb (f .0) k) (eqb (f .1) k) e) in
+        (omega arith, omega arith)
+
+    by : (first last : Bool) → areThese (cond first (some (9178, 9178)) (cond last none (some (10000, 10000)))) f ≡ true → (f .0 ≤ 10000) × (f .1 ≤ 10000)
+    by true last e = same 9178 (omega arith) e
+    by false true e = absurd (let z : _≡_ {A = ℕ} 0 1 = cc in omega arith)
+    by false false e = same 10000 (omega arith) e
 
 factors-small : (number : ℕ) (f : ℕ × ℕ) → factors number .ok f ≡ true → (leb (f .0) 10000 && leb (f .1) 10000) ≡ true
 factors-small number f h =
     left-or-right (isLeftOut number f) (factorsValue number .fine f) h
-    (λ e.
-    let a : f .0 ≡ 10000 = eqb-true (f .0) 10000 (and-left (eqb (f .0) 10000) (eqb (f .1) 10000) e) in
-    let b : f .1 ≡ 10000 = eqb-true (f .1) 10000 (and-right (eqb (f .0) 10000) (eqb (f .1) 10000) e) in
-    and-made (le-leb (f .0) 10000 (omega arith)) (le-leb (f .1) 10000 (omega arith)))
+    (λ e. let s = left-out-small number f e in and-made (le-leb (f .0) 10000 (s .0)) (le-leb (f .1) 10000 (s .1)))
     (λ e.
     let x = num 2 0 10000 in
     let g = and-left (pair x x .fine f) (not (isLeftOut number f)) e in

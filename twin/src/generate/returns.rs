@@ -4,8 +4,24 @@ use super::Generator;
 use crate::model::calendar::year_minutes;
 use crate::model::log::{Slot, LAST_REGIME_END};
 use crate::model::year::Line;
-use crate::model::yearly_return::{field, line_value, outage_value, write, MOST_BYTES};
+use crate::model::yearly_return::{field, left_out, line_value, outage_value, write, MOST_BYTES};
 use crate::script::{Call, YearFields};
+
+/// Years on both sides of where another rule says which factors are left out.
+const PART_YEARS: [u8; 4] = [1, 2, 24, 25];
+
+/// Factors at and beside those that are left out.
+const PARTS: [(u16, u16); 9] = [
+    (9_178, 9_178),
+    (9_178, 9_177),
+    (9_179, 9_178),
+    (9_178, 10_000),
+    (10_000, 9_178),
+    (10_000, 10_000),
+    (10_000, 9_999),
+    (9_999, 10_000),
+    (10_001, 10_000),
+];
 
 /// A return as its fields: tag and value.
 type Fields = Vec<(u8, Vec<u8>)>;
@@ -47,6 +63,9 @@ impl Generator {
                 self.call(Call::Levels { k });
             }
         }
+        for _ in 0..3 {
+            self.part_year_work();
+        }
         for _ in 0..10 {
             let bytes = self.some_return();
             match self.random.below(3) {
@@ -60,6 +79,36 @@ impl Generator {
                 }
                 _ => self.call(Call::Print { bytes }),
             }
+        }
+    }
+
+    /// The return of a year with factors at an edge, their field there, cut or
+    /// left out, and in its stead another field or the end; then such a year
+    /// written.
+    fn part_year_work(&mut self) {
+        let number = self.random.pick(&PART_YEARS);
+        let (pyc, pyf) = self.random.pick(&PARTS);
+        let mut fields = self.fields_of(number, 1, &[]);
+        fields.retain(|field| field.0 != 5);
+        if self.random.one_in(2) {
+            fields.truncate(4);
+        }
+        let mut bytes = joined(&fields);
+        if !self.random.one_in(3) {
+            let factors = field(5, &[pyc.to_be_bytes(), pyf.to_be_bytes()].concat());
+            let kept = if self.random.one_in(6) { 3 } else { factors.len() };
+            bytes.splice(23..23, factors[..kept].iter().copied());
+        }
+        let k = self.any_k();
+        self.call(Call::Read { k, bytes: bytes.clone() });
+        let room = self.random.pick(&[22, 23, 29, 30, 100]);
+        self.call(Call::Refile { room, bytes: bytes.clone() });
+        self.call(Call::Print { bytes });
+        let fields = YearFields { pyc, pyf, ..self.random.fair_fields(number, 0) };
+        self.put_year(k, fields, &[]);
+        for _ in 0..2 {
+            let room = self.some_room(k);
+            self.call(Call::Write { k, room });
         }
     }
 
@@ -131,7 +180,7 @@ impl Generator {
                 self.close_and_write(k);
             }
             _ => {
-                (fields.pyc, fields.pyf) = self.random.pick(&[(10_000, 10_000), (10_000, 9_999)]);
+                (fields.pyc, fields.pyf) = self.random.pick(&PARTS[..8]);
                 fields.mark = !fields.mark;
                 fields.w = self.random.fair_amount();
             }
@@ -173,7 +222,7 @@ impl Generator {
             (3, year.rate.to_be_bytes().to_vec()),
             (4, year.aic.to_be_bytes().to_vec()),
         ];
-        if (year.pyc, year.pyf) != (10_000, 10_000) {
+        if left_out(number) != Some((year.pyc, year.pyf)) {
             fields.push((5, [year.pyc.to_be_bytes(), year.pyf.to_be_bytes()].concat()));
         }
         for line in self.some_lines(lines, year.rate) {
@@ -267,6 +316,7 @@ impl Generator {
             5 => {
                 let both = self.random.pick(&[
                     [10_000u16, 10_000],
+                    [9_178, 9_178],
                     [10_001, 10_000],
                     [10_000, 10_001],
                     [10_000, 9_999],
@@ -398,5 +448,67 @@ impl Generator {
             }
         }
         bytes
+    }
+}
+
+#[cfg(test)]
+mod tests {
+    use super::*;
+    use crate::desk::Desk;
+    use crate::generate::tests::seen_in;
+    use crate::model::yearly_return::field_at;
+
+    /// Of a return that is read: its year, its factors where they are there, and
+    /// what comes of it. Of one that is written: the same, by its year.
+    fn factors_tried(desk: &Desk, call: &Call, answer: &str) -> Vec<(u8, Option<u16>, String)> {
+        let number = answer.split(' ').next().unwrap().to_string();
+        match call {
+            Call::Read { bytes, .. } if bytes.len() >= 23 && bytes.len() < 100 => {
+                let five = match field_at(bytes, 23) {
+                    Some((5, value, _)) if value.len() == 4 => {
+                        let (pyc, pyf) = value.split_at(2);
+                        if pyc != pyf {
+                            return vec![];
+                        }
+                        Some(u16::from_be_bytes([pyc[0], pyc[1]]))
+                    }
+                    _ => None,
+                };
+                vec![(bytes[3], five, format!("read {number}"))]
+            }
+            Call::Write { k, .. } => {
+                let year = &desk.years[*k as usize];
+                if number != "0" || year.line_count > 0 || year.log.count > 0 {
+                    return vec![];
+                }
+                let length: usize = answer.split(' ').nth(1).unwrap().parse().unwrap();
+                let rest = 4 * year.mark as usize + 11 * (year.w != 0) as usize;
+                let both = (year.pyc == year.pyf).then_some(year.pyc);
+                vec![(year.number, both, format!("wrote {}", length - rest))]
+            }
+            _ => vec![],
+        }
+    }
+
+    #[test]
+    fn factors_at_the_edges() {
+        let seen = seen_in(300, Generator::return_block, factors_tried);
+        let often = |number: u8, five: Option<u16>, what: &str| {
+            let times = seen.get(&(number, five, what.to_string())).copied().unwrap_or(0);
+            assert!(times >= 10, "year {number}, {five:?}, {what}: {times} times");
+        };
+        for (number, out, other) in [(1, 9_178, 10_000), (2, 10_000, 9_178), (24, 10_000, 9_178)] {
+            often(number, None, "read 0");
+            often(number, Some(out), "read 13");
+            often(number, Some(other), "read 0");
+            often(number, Some(out), "wrote 23");
+            often(number, Some(other), "wrote 30");
+        }
+        for both in [9_178, 10_000] {
+            often(25, Some(both), "read 0");
+            often(25, Some(both), "wrote 30");
+        }
+        often(25, None, "read 13");
+        assert!(!seen.contains_key(&(25, None, "read 0".to_string())));
     }
 }

@@ -174,7 +174,7 @@ impl Random {
 
     pub fn fair_part(&mut self) -> u16 {
         match self.below(4) {
-            0 => self.pick(&[0, 1, 9_999, 5_000]),
+            0 => self.pick(&[0, 1, 9_178, 9_999, 5_000]),
             1 => self.between(0, 10_000) as u16,
             _ => 10_000,
         }

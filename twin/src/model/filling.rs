@@ -159,6 +159,21 @@ mod tests {
     }
 
     #[test]
+    fn a_first_year_that_leaves_its_factors_out() {
+        // 335 days of 365: 83,806,402 x 0.9178 is 76,917,515.7556, 48,807,317 x
+        // 0.9178 is 44,795,355.5426.
+        let mut filed = returns(&years(1));
+        filed[0].truncate(23);
+        let cells = fill(&joined((61, 61), &filed)).unwrap();
+        assert_eq!(cells[1..3], [Cell::Number(76_917_516.0), Cell::Number(44_795_356.0)]);
+        assert_eq!(cells[5..7], [Cell::Number(83_806_402.0), Cell::Number(48_807_317.0)]);
+        let mut last = returns(&years(21));
+        assert!(fill(&joined((61, 61), &last)).is_ok());
+        last[4].truncate(23);
+        assert_eq!(fill(&joined((61, 61), &last)), Err(13));
+    }
+
+    #[test]
     fn every_period() {
         for first in [1, 6, 11, 16, 21] {
             assert_eq!(refused(&years(first)), None);
@@ -180,7 +195,8 @@ mod tests {
     #[test]
     fn an_input_is_taken_whole() {
         let bytes = input(&years(1));
-        assert_eq!(bytes.len(), 8 + 5 * 25);
+        // Year 1 has its factors written out.
+        assert_eq!(bytes.len(), 8 + 5 * 25 + 7);
         for length in 0..bytes.len() {
             assert_eq!(fill(&bytes[..length]), Err(13), "{length}");
         }

@@ -1,0 +1,2 @@
+-- Laws of the factors that a return leaves out.
+pub mod Factored
