@@ -7,6 +7,9 @@ use native.Mathlib.Omega.{arith}
 use borrow.Author.Tests.{leb-true, ltb-true, ltb-false, lt-ltb}
 use lib.Dec.{leb, ltb, lit<}
 use lib.ListN.{length, drop}
+use mathlib.Core.Option.{none}
+use Rattle.codec.specs.Format.{field, ReadAt}
+use Rattle.return_format.specs.Form.{factorsValue, required}
 use lib.IntN.{ℤ, pos, negsuc, natAbs, _+ℤ_, _*ℤ_}
 use lib.Signed.{leZ}
 use Rattle.lists.proofs.Tests.{and-right, not-no}
@@ -67,7 +70,7 @@ use Rattle.return_format.specs.declared.Return.{Return}
 use Rattle.return_format.specs.Return.{mostBytes, Reading, whole, refused, readingOf, isRefused, placeIn, returnOf, writeRows}
 use Rattle.return_round_trip.specs.Flat.{fieldsOf, Factored}
 use Rattle.return_round_trip.specs.Places.{RefusalPlace}
-use Rattle.return_round_trip.proofs.Places.{return-accepted, accepted-return, same-bytes, refusal-place, place-alone, longer-refused, one-place}
+use Rattle.return_round_trip.proofs.Places.{return-accepted, accepted-return, same-bytes, refusal-place, place-alone, longer-refused, no-factors-refused, one-place}
 use Rattle.return_round_trip.proofs.Flat.{flat, flat-whole, tags-ascend, factors-said}
 use Rattle.return_reading.specs.Reading.{ReturnGives}
 use Rattle.refusals.specs.declared.Written.{Written}
@@ -230,6 +233,11 @@ module _ (bs : List ℕ) (t : Return) (g : ReturnGives bs t) where
       let f : readingOf bs ≡ refused why (t .place) = e ∙ ap (refused why) (sym (g .1 ∙ ap placeIn e)) in
       (refusal-place bs why (t .place) b h f, place-alone bs b h why (t .place) f)
 
+  no-factors-is : length bs ≤ mostBytes → {rest : ℕ × (ℕ × ℕ)} → ReadAt required bs 0 (25, rest) 23 → field 5 (factorsValue 25) (drop 23 bs) ≡ none → (answerNumber (t .answer) ≡ 13) × (t .place ≡ 23)
+  no-factors-is few head none-found =
+      let e = no-factors-refused bs few head none-found in
+      (g .0 ∙ ap (λ (x : Reading). cond (isRefused x) 13 0) e, g .1 ∙ ap placeIn e)
+
   longer-is : mostBytes < length bs → (answerNumber (t .answer) ≡ 13) × (t .place ≡ mostBytes)
   longer-is h =
       let e = longer-refused bs h in
@@ -284,6 +292,7 @@ demand-2 = record {
   lengths = written-length;
   place = λ bs b t g n h. place-there bs t g (readingOf bs) refl b n h;
   one-place = one-place;
+  no-factors = λ bs few t g pppi rate aic head e. no-factors-is bs t g few head e;
   longer = longer-is;
   sheet-written-read = sheet-reads-back;
   sheet-read-written = sheet-writes-back;

@@ -6,7 +6,7 @@ use mathlib.Core.Path.{_≡_}
 use mathlib.Core.Bool.{true}
 use mathlib.Core.List.{List, _++_}
 use mathlib.Core.Logic.{_⊎_}
-use mathlib.Core.Option.{some}
+use mathlib.Core.Option.{some, none}
 use Prim.Native.Nat.{ℕ, suc, _+_, _-_, _*_, _/_, _^_, _≤_, _<_}
 use lib.Dec.{leb}
 use lib.ListN.{length, getD, take, drop}
@@ -65,6 +65,7 @@ use Rattle.workbook_input.specs.Calls.{runningLog, yearlyAmounts, periodAmounts
 use Rattle.workbook_filling.specs.Filling.{FillGives}
 use Rattle.codec.specs.Theorems.{Bytes}
 use Rattle.codec.specs.Theorems.{isWhole, joined}
+use Rattle.codec.specs.Format.{field, ReadAt}
 use Rattle.text.specs.Text.{textOf}
 use Rattle.sheet_printout.specs.declared.Printed.{Printed}
 use Rattle.sheet_printout.specs.Dates.{momentOf}
@@ -82,6 +83,7 @@ use Rattle.sheet_round_trip.specs.Sheets as sheets
 use Rattle.sheet_reading.specs.Reading.{SheetGives}
 use Rattle.sheet_writing.specs.Written.{WriteSheetGives}
 use Rattle.return_format.specs.declared.Return.{Return}
+use Rattle.return_format.specs.Form.{factorsValue, required}
 use Rattle.return_format.specs.Return.{mostBytes}
 use Rattle.return_round_trip.specs.Flat.{fieldsOf, Ordered, Factored, longest, shortest}
 use Rattle.return_round_trip.specs.Places.{IsReturnOf, IsReturn, RefusalPlace}
@@ -208,6 +210,9 @@ pub record Demand2 : Type 0 where
   pub place : (bs : List ℕ) → Bytes bs → (t : Return) → ReturnGives bs t → (answerNumber (t .answer) ≡ 0 → ⊥) → length bs ≤ mostBytes
       → RefusalPlace bs (t .place) × ((other : ℕ) → RefusalPlace bs other → other ≡ t .place)
   pub one-place : (bs : List ℕ) (place other : ℕ) → RefusalPlace bs place → RefusalPlace bs other → place ≡ other
+  -- in year 25 behind the four required fields, where no factors are found: at another field, at one that is wrong, or at the end
+  pub no-factors : (bs : List ℕ) → length bs ≤ mostBytes → (t : Return) → ReturnGives bs t
+      → (pppi rate aic : ℕ) → ReadAt required bs 0 (25, (pppi, (rate, aic))) 23 → field 5 (factorsValue 25) (drop 23 bs) ≡ none → (answerNumber (t .answer) ≡ 13) × (t .place ≡ 23)
   pub longer : (bs : List ℕ) (t : Return) → ReturnGives bs t → mostBytes < length bs → (answerNumber (t .answer) ≡ 13) × (t .place ≡ mostBytes)
   -- ---- rule 15.6: day sheets. A log that is written reads back with all of it open, to its own regime end: as itself where it is open
   pub sheet-written-read : (log : Log) → length (log .entries) ≡ slots → (out o : List ℕ) (n : ℕ) → WriteSheetGives log out (Length n) o

@@ -4,17 +4,20 @@
 use mathlib.Core.Path.{_≡_, refl, sym, ap, _∙_}
 use mathlib.Core.Bool.{cond}
 use mathlib.Core.List.{List, [], _∷_}
+use mathlib.Core.Option.{none}
 use Prim.Native.Nat.{ℕ, _≤_, _<_}
 use native.Mathlib.Nat.{not-suc-le-zero}
 use native.Mathlib.Omega.{arith}
-use lib.ListN.{length}
+use lib.ListN.{length, drop}
 use Rattle.refusals.specs.Refusals.{firstApplicable}
 use Rattle.refusals.specs.declared.Refusal.the-variants.{Malformed}
 use Rattle.year.specs.declared.Year.{Year}
 use Rattle.codec.specs.Theorems.{Bytes}
-use Rattle.codec.specs.Format.{malformed}
+use Rattle.codec.specs.Format.{field, malformed, ReadAt}
 use Rattle.codec.proofs.Message as Message
-use Rattle.return_format.specs.Form.{form}
+use Rattle.codec.proofs.Positions.{opt-missing}
+use Rattle.codec.proofs.Steps.{first-stopped, then-stopped, stopped-whole}
+use Rattle.return_format.specs.Form.{leftOut, isLeftOut, factorsValue, factors, required, tail, body, form}
 use Rattle.return_format.specs.Return.{yearOf, mostBytes, Reading, whole, refused, readingOf, isRefused, readRows}
 use Rattle.return_round_trip.specs.Places.{IsReturnOf, IsReturn, RefusalPlace}
 use Rattle.return_round_trip.proofs.Lawful.{form-lawful, form-placed, form-numbered}
@@ -47,6 +50,14 @@ refusal-place = Message.refusal-place form-lawful return-messages form-placed mo
 -- rule 10.4: a longer return
 pub longer-refused : (bs : List ℕ) → mostBytes < length bs → readingOf bs ≡ refused malformed mostBytes
 longer-refused bs h = Message.longer form yearOf mostBytes bs h
+
+-- rule 10.5: year 25 without its factors
+pub no-factors-refused : (bs : List ℕ) → length bs ≤ mostBytes → {rest : ℕ × (ℕ × ℕ)} → ReadAt required bs 0 (25, rest) 23 → field 5 (factorsValue 25) (drop 23 bs) ≡ none → readingOf bs ≡ refused malformed 23
+unfolding form
+no-factors-refused bs few head e =
+    stopped-whole form yearOf mostBytes bs few
+    (then-stopped required (λ h. body (h .0)) head
+    (first-stopped (factors 25) (λ f. tail 25) (opt-missing 5 (factorsValue 25) (leftOut 25) (isLeftOut 25) bs 23 refl (head .inside) e)))
 
 -- no other place is the first wrong field
 pub one-place : (bs : List ℕ) (p q : ℕ) → RefusalPlace bs p → RefusalPlace bs q → p ≡ q

@@ -10,8 +10,8 @@ use crate::script::{Call, YearFields};
 /// Years on both sides of where another rule says which factors are left out.
 const PART_YEARS: [u8; 4] = [1, 2, 24, 25];
 
-/// Factors at and beside those that are left out.
-const PARTS: [(u16, u16); 9] = [
+/// Factors at and beside those that are left out, all in range.
+const PARTS: [(u16, u16); 8] = [
     (9_178, 9_178),
     (9_178, 9_177),
     (9_179, 9_178),
@@ -20,7 +20,6 @@ const PARTS: [(u16, u16); 9] = [
     (10_000, 10_000),
     (10_000, 9_999),
     (9_999, 10_000),
-    (10_001, 10_000),
 ];
 
 /// A return as its fields: tag and value.
@@ -87,7 +86,10 @@ impl Generator {
     /// written.
     fn part_year_work(&mut self) {
         let number = self.random.pick(&PART_YEARS);
-        let (pyc, pyf) = self.random.pick(&PARTS);
+        let (mut pyc, pyf) = self.random.pick(&PARTS);
+        if self.random.one_in(9) {
+            pyc = 10_001;
+        }
         let mut fields = self.fields_of(number, 1, &[]);
         fields.retain(|field| field.0 != 5);
         if self.random.one_in(2) {
@@ -180,7 +182,7 @@ impl Generator {
                 self.close_and_write(k);
             }
             _ => {
-                (fields.pyc, fields.pyf) = self.random.pick(&PARTS[..8]);
+                (fields.pyc, fields.pyf) = self.random.pick(&PARTS);
                 fields.mark = !fields.mark;
                 fields.w = self.random.fair_amount();
             }
