@@ -68,7 +68,7 @@ use Rattle.floats.proofs.Pounds.{out-and-back}
 use Rattle.workbook_cells.proofs.RoundTrip.{reads-back, comes-out}
 use Rattle.return_format.specs.declared.Return.{Return}
 use Rattle.return_format.specs.Return.{mostBytes, Reading, whole, refused, readingOf, isRefused, placeIn, returnOf, writeRows}
-use Rattle.return_round_trip.specs.Flat.{fieldsOf, Factored}
+use Rattle.return_round_trip.specs.Flat.{fieldsOf, FactorsWritten}
 use Rattle.return_round_trip.specs.Places.{RefusalPlace}
 use Rattle.return_round_trip.proofs.Places.{return-accepted, accepted-return, same-bytes, refusal-place, place-alone, longer-refused, no-factors-refused, one-place}
 use Rattle.return_round_trip.proofs.Flat.{flat, flat-whole, tags-ascend, factors-said}
@@ -288,7 +288,7 @@ demand-2 = record {
   whole-fields = flat-whole;
   flat = flat-is;
   tags = λ bs b t g n. tags-ascend bs b (sym (g .0) ∙ n);
-  factored = λ bs b t g n fields w e. subst (λ (y : Year). Factored y fields) (sym (g .2)) (factors-said bs b (sym (g .0) ∙ n) fields w e);
+  factored = λ bs b t g n fields w e. subst (λ (y : Year). FactorsWritten y fields) (sym (g .2)) (factors-said bs b (sym (g .0) ∙ n) fields w e);
   lengths = written-length;
   place = λ bs b t g n h. place-there bs t g (readingOf bs) refl b n h;
   one-place = one-place;

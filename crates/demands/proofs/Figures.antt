@@ -50,7 +50,7 @@ use Rattle.return_format.specs.declared.Return.{Return}
 use Rattle.return_format.specs.Form.{leftOut, form}
 use Rattle.return_format.specs.Return.{readRows, readPlace, readYear}
 use Rattle.return_reading.specs.Reading.{ReturnGives}
-use Rattle.demands.specs.Figures.{outage, outFor, noOutage, wholeYear, bookWith, shortReturn, euroLine, fiveYears, FiveFigures, MarkedFigures}
+use Rattle.demands.specs.Figures.{outage, outFor, noOutage, wholeYear, bookWith, shortReturn, withFactors, euroLine, fiveYears, FiveFigures, MarkedFigures}
 
 -- ---- the logs keep every rule
 none-out-valid : validLog noOutage ≡ true
@@ -252,9 +252,33 @@ later-part : Part (shortReturn 24) 10000
 unfolding reading form field framed spelled scan
 later-part = (refl, refl, refl)
 
-no-last-part : (firstApplicable (readRows (shortReturn 25)) ≡ 13) × (readPlace (shortReturn 25) ≡ 23)
+-- with both written out
+first-whole-part : Part (withFactors 1 39 16) 10000
+unfolding reading form field framed spelled scan
+first-whole-part = (refl, refl, refl)
+
+last-part : Part (withFactors 25 35 218) 9178
+unfolding reading form field framed spelled scan
+last-part = (refl, refl, refl)
+
+last-whole-part : Part (withFactors 25 39 16) 10000
+unfolding reading form field framed spelled scan
+last-whole-part = (refl, refl, refl)
+
+-- a return that is refused at the factors, or where they should stand
+abbrev NoPart : List ℕ → Type 0
+NoPart bs = (firstApplicable (readRows bs) ≡ 13) × (readPlace bs ≡ 23)
+
+no-part-read : (bs : List ℕ) → NoPart bs → (r : Return) → ReturnGives bs r → (answerNumber (r .answer) ≡ 13) × (r .place ≡ 23)
+no-part-read bs p r g = (g .0 ∙ p .0, g .1 ∙ p .1)
+
+no-last-part : NoPart (shortReturn 25)
 unfolding reading form field framed spelled scan
 no-last-part = (refl, refl)
+
+first-default-part : NoPart (withFactors 1 35 218)
+unfolding reading form field framed spelled scan
+first-default-part = (refl, refl)
 
 -- ---- all of them
 -- equal lists are equal place by place
@@ -299,5 +323,9 @@ marked = record {
   first-left-out = part-read (shortReturn 1) 9178 first-part;
   second-left-out = part-read (shortReturn 2) 10000 second-part;
   later-left-out = part-read (shortReturn 24) 10000 later-part;
-  last-left-out = λ r g. (g .0 ∙ no-last-part .0, g .1 ∙ no-last-part .1);
+  last-left-out = no-part-read (shortReturn 25) no-last-part;
+  first-default = no-part-read (withFactors 1 35 218) first-default-part;
+  first-whole = part-read (withFactors 1 39 16) 10000 first-whole-part;
+  last-part = part-read (withFactors 25 35 218) 9178 last-part;
+  last-whole = part-read (withFactors 25 39 16) 10000 last-whole-part;
 }

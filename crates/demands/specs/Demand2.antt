@@ -85,7 +85,7 @@ use Rattle.sheet_writing.specs.Written.{WriteSheetGives}
 use Rattle.return_format.specs.declared.Return.{Return}
 use Rattle.return_format.specs.Form.{factorsValue, required}
 use Rattle.return_format.specs.Return.{mostBytes}
-use Rattle.return_round_trip.specs.Flat.{fieldsOf, Ordered, Factored, longest, shortest}
+use Rattle.return_round_trip.specs.Flat.{fieldsOf, Ordered, FactorsWritten, longest, shortest}
 use Rattle.return_round_trip.specs.Places.{IsReturnOf, IsReturn, RefusalPlace}
 use Rattle.return_reading.specs.Reading.{ReturnGives}
 use Rattle.refusals.specs.declared.Written.{Written}
@@ -202,7 +202,7 @@ pub record Demand2 : Type 0 where
       → (fields : List (List ℕ)) → all isWhole fields ≡ true → bs ≡ joined fields → Ordered fields
   -- rule 10.2: field 05 is there exactly where the year's factors are not those that its return leaves out, and always in year 25
   pub factored : (bs : List ℕ) → Bytes bs → (t : Return) → ReturnGives bs t → answerNumber (t .answer) ≡ 0
-      → (fields : List (List ℕ)) → all isWhole fields ≡ true → bs ≡ joined fields → Factored (t .year) fields
+      → (fields : List (List ℕ)) → all isWhole fields ≡ true → bs ≡ joined fields → FactorsWritten (t .year) fields
   -- rule 10.6: no return that is written is longer than the longest, nor shorter than the shortest of its year
   pub lengths : (y : Year) → length (y .lines) ≡ lineSlots → length (y .log .entries) ≡ slots → (out o : List ℕ) (n : ℕ) → WriteGives y out (Length n) o
       → (shortest (y .number) ≤ n) × (n ≤ longest)

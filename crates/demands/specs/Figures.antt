@@ -1,7 +1,7 @@
 -- The figures of the rules, section 13, as what the calls give.
 use mathlib.Core.Path.{_≡_}
 use mathlib.Core.Bool.{true, false}
-use mathlib.Core.List.{List, [], _∷_, map}
+use mathlib.Core.List.{List, [], _∷_, _++_, map}
 use mathlib.Core.Option.{some}
 use Prim.Native.Nat.{ℕ, _+_, _*_}
 use lib.IntN.{ℤ, pos, negℤ}
@@ -91,6 +91,10 @@ abbrev pub shortReturn : ℕ → List ℕ
 shortReturn number =
     1 ∷ 0 ∷ 1 ∷ number ∷ 2 ∷ 0 ∷ 4 ∷ 0 ∷ 0 ∷ 39 ∷ 16 ∷ 3 ∷ 0 ∷ 4 ∷ 0 ∷ 1 ∷ 134 ∷ 160 ∷ 4 ∷ 0 ∷ 2 ∷ 39 ∷ 16 ∷ []
 
+-- the same with both factors written out, in two bytes each
+abbrev pub withFactors : ℕ → ℕ → ℕ → List ℕ
+withFactors number high low = shortReturn number ++ (5 ∷ 0 ∷ 4 ∷ high ∷ low ∷ high ∷ low ∷ [])
+
 -- rule 13.4: five years alike but for W, which the second alone has
 abbrev pub five : {A : Type 0} → A → List A
 five a = a ∷ a ∷ a ∷ a ∷ a ∷ []
@@ -164,3 +168,8 @@ pub record MarkedFigures : Type 0 where
   pub second-left-out : (r : Return) → ReturnGives (shortReturn 2) r → (answerNumber (r .answer) ≡ 0) × (r .year .pyc ≡ 10000) × (r .year .pyf ≡ 10000)
   pub later-left-out : (r : Return) → ReturnGives (shortReturn 24) r → (answerNumber (r .answer) ≡ 0) × (r .year .pyc ≡ 10000) × (r .year .pyf ≡ 10000)
   pub last-left-out : (r : Return) → ReturnGives (shortReturn 25) r → (answerNumber (r .answer) ≡ 13) × (r .place ≡ 23)
+  -- written out, 9,178 (35 and 218) is refused in year 1 and 10,000 (39 and 16) taken; year 25 takes both
+  pub first-default : (r : Return) → ReturnGives (withFactors 1 35 218) r → (answerNumber (r .answer) ≡ 13) × (r .place ≡ 23)
+  pub first-whole : (r : Return) → ReturnGives (withFactors 1 39 16) r → (answerNumber (r .answer) ≡ 0) × (r .year .pyc ≡ 10000) × (r .year .pyf ≡ 10000)
+  pub last-part : (r : Return) → ReturnGives (withFactors 25 35 218) r → (answerNumber (r .answer) ≡ 0) × (r .year .pyc ≡ 9178) × (r .year .pyf ≡ 9178)
+  pub last-whole : (r : Return) → ReturnGives (withFactors 25 39 16) r → (answerNumber (r .answer) ≡ 0) × (r .year .pyc ≡ 10000) × (r .year .pyf ≡ 10000)

@@ -28,7 +28,7 @@ use Rattle.codec.proofs.Fields.{joined-append, same-fields}
 use Rattle.money.specs.Pounds.{isNone}
 use Rattle.return_format.specs.Form.{yearValue, pppiValue, rateValue, aicValue, areThese, isLeftOut, markValue, lineItem, entryItem, body, form}
 use Rattle.return_format.specs.Return.{partsOf, readRows, readYear, returnOf}
-use Rattle.return_round_trip.specs.Flat.{factorsField, lineField, outageField, markField, wpaField, present, bothAre, leavesFactors, fieldsOf, tagOf, mayPrecede, Ordered, hasFactors, Factored}
+use Rattle.return_round_trip.specs.Flat.{factorsField, lineField, outageField, markField, wpaField, present, bothAre, leavesFactors, fieldsOf, tagOf, mayPrecede, Ordered, hasFactors, FactorsWritten}
 use Rattle.return_round_trip.proofs.RoundTrip.{accepted-whole, read-written}
 
 -- ---- the bytes are the fields one after the other
@@ -228,7 +228,7 @@ module _ (bs : List ℕ) (b : Bytes bs) (h : firstApplicable (readRows bs) ≡ 0
       subst Ordered fields-are o
 
   -- and 05 is among them as rule 10.2 says
-  pub factors-said : Factored y fields
+  pub factors-said : FactorsWritten y fields
   factors-said =
       let is : hasFactors fields ≡ not (leavesFactors y) = ap hasFactors (sym fields-are) ∙ has-factors y in
       record {

@@ -85,7 +85,7 @@ abbrev pub hasFactors : List (List ℕ) → Bool
 hasFactors fields = any (λ t. eqb t 5) (map tagOf fields)
 
 -- which depends on the year and its factors
-pub record Factored (y : Year) (fields : List (List ℕ)) : Type 0 where
+pub record FactorsWritten (y : Year) (fields : List (List ℕ)) : Type 0 where
   pub first : y .number ≡ 1 → hasFactors fields ≡ not (bothAre 9178 y)
   pub between : 2 ≤ y .number → y .number ≤ 24 → hasFactors fields ≡ not (bothAre 10000 y)
   pub last : y .number ≡ 25 → hasFactors fields ≡ true
