@@ -1,5 +1,7 @@
 // The assessment of a period, from the book, its years and the running log: rule 8.5 (SC3).
 // What is inside is over the first n of a period's years.
+#![tactic(auto)]
+
 ghost use Rattle.std.specs.Prelude.{◌≡◌, cond, true, ◌<◌, ◌≤◌, take};
 ghost use Rattle.lists.specs.Lists.{all};
 ghost use Rattle.levels.specs.Book.{book_holds};
@@ -17,7 +19,7 @@ use revenue::{Revenue, revenue_of};
 use year::{Year, check_year};
 
 // What one year brings, and whether its levels and revenue fit: zeros where they do not.
-#[derive(Drop)]
+#[derive(Clone, Copy)]
 struct Row {
     fits: bool,
     index: u32,
@@ -28,7 +30,7 @@ struct Row {
 }
 
 // What the years bring, and whether all of it fits.
-#[derive(Drop)]
+#[derive(Clone, Copy)]
 struct Filled {
     fits: bool,
     yearly: Yearly,

@@ -11,7 +11,7 @@ use refusals::Refusal;
 
 // What the years of an assessment period bring: index, assessed revenue, cap and floor level, within-period adjustment. An
 // assessment is over the first n of them.
-#[derive(Drop)]
+#[derive(Clone, Copy)]
 pub struct Yearly {
     pub index: [u32; Yearly::YEARS],
     pub revenue: [i64; Yearly::YEARS],
@@ -33,7 +33,7 @@ impl Yearly {
 }
 
 // The four balances, revenue held between floor and cap, and the adjustment paid to the licensee.
-#[derive(Drop)]
+#[derive(Clone, Copy)]
 pub struct Figures {
     pub revenue: i64,
     pub cap: i64,
@@ -44,7 +44,7 @@ pub struct Figures {
 }
 
 // The figures, or why there are none.
-#[derive(Drop)]
+#[derive(Clone, Copy)]
 pub enum Assessment {
     Found(Figures),
     Refused(Refusal),

@@ -7,7 +7,7 @@ use super::assessing::Yearly;
 use money::{plus, scaled, within};
 
 // A balance, or none: above 10^10 in magnitude after some year.
-#[derive(Drop)]
+#[derive(Clone, Copy)]
 pub(crate) enum Balance {
     Is(i64),
     Over,

@@ -1,4 +1,6 @@
 // The Relevant Years of the regime: rules 2.1 and 2.2.
+#![tactic(auto)]
+
 mod ends;
 
 ghost use Rattle.std.specs.Prelude.{◌≡◌, suc, ◌+◌, ◌<◌, ◌≤◌};
@@ -20,7 +22,7 @@ const DAYS_BEFORE: u32 = 30;
 const MINUTES_A_DAY: u32 = 1440;
 
 // A year's first minute and the minute that it ends at, or why there is none.
-#[derive(Drop)]
+#[derive(Clone, Copy)]
 pub enum YearMinutes {
     Span { first: u32, end: u32 },
     Refused(Refusal),

@@ -1,4 +1,6 @@
 // A cell of the regulator's workbook as a line of CSV: rule 19.9.
+#![tactic(auto)]
+
 mod names;
 
 ghost use Rattle.std.specs.Prelude.{◌≡◌, cond, [], ◌∷◌, ◌++◌, ◌<◌, ◌≤◌};
@@ -15,7 +17,7 @@ use refusals::{Answer, Refusal};
 use text::{Text, push, push_all, push_decimal, push_signed};
 
 // A line: an empty text beside a refusal.
-#[derive(Drop)]
+#[derive(Clone, Copy)]
 pub struct CellLine {
     pub answer: Answer,
     pub text: Text,

@@ -1,4 +1,6 @@
 // A cell of the regulator's workbook by itself: what it may hold at its index, and an amount as a cell. Rules 19.1 and 19.4.
+#![tactic(auto)]
+
 ghost use Rattle.std.specs.Prelude.{◌≡◌};
 ghost use Rattle.floats.specs.Floats.{whole_found};
 ghost use Rattle.cells.specs.Cells.{amount_in, cell_of, good_amount, is_level, is_within, most_at, ranged};
@@ -7,7 +9,7 @@ use floats::{Whole, float_of, whole_of};
 use money::{is_negative, magnitude, within};
 
 // What a cell holds: nothing, a number, or a day that may end in a half.
-#[derive(Drop)]
+#[derive(Clone, Copy)]
 pub enum Cell {
     Empty,
     Number(f64),
@@ -15,7 +17,7 @@ pub enum Cell {
 }
 
 // A place of the workbook, which holds a cell.
-#[derive(Drop)]
+#[derive(Clone, Copy)]
 pub struct Slot {
     pub cell: Cell,
 }

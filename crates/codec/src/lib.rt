@@ -1,5 +1,7 @@
 // Tagged fields in the caller's bytes: rule 10.1. A slice and a place go in; where the bytes are not
 // there, or there is no room, the answer says so and nothing is written.
+#![tactic(auto)]
+
 mod laying;
 
 ghost use Rattle.std.specs.Prelude.{◌≡◌, ◌+◌, ◌≤◌, drop, length, take};
@@ -16,14 +18,14 @@ use money::within;
 const WIDEST: usize = 8;
 
 // A number in range, or none.
-#[derive(Drop)]
+#[derive(Clone, Copy)]
 pub enum FoundNumber {
     Is(u64),
     Not,
 }
 
 // A signed number in range, or none.
-#[derive(Drop)]
+#[derive(Clone, Copy)]
 pub enum FoundAmount {
     Is(i64),
     Not,

@@ -1,5 +1,7 @@
 // Reads one yearly return on standard input and prints its year, the MW-minutes lost in the year and after its end, and
 // the assessed revenue; or `refused ` and the number. Rules, section 11.
+#![tactic(auto)]
+
 mod input;
 
 use input::read_whole;

@@ -1,11 +1,13 @@
 // What a 64-bit float says in whole numbers and in halves, and the floats of these, exactly: rules 19.1 and 19.2.
+#![tactic(auto)]
+
 ghost use Rattle.std.specs.Prelude.{◌≡◌};
 ghost use Rattle.std.specs.Float.{binary64};
 ghost use Rattle.std.specs.Float.Ieee.{of_int};
 ghost use Rattle.floats.specs.Floats.{half_days, halves_found, whole_found, whole_pounds};
 
 // A whole number of magnitude at most 3 x 10^10, or that a float is none.
-#[derive(Drop)]
+#[derive(Clone, Copy)]
 pub enum Whole {
     Is(i64),
     No,
@@ -18,7 +20,7 @@ impl Whole {
 }
 
 // Twice a day number from 61 to 73,050 that may end in a half, or that a float is none.
-#[derive(Drop)]
+#[derive(Clone, Copy)]
 pub enum Halves {
     Are(u64),
     No,

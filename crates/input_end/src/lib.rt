@@ -1,4 +1,6 @@
 // What counts of an input where a read moves nothing: rules 11.2 and 20.4.
+#![tactic(auto)]
+
 ghost use Rattle.std.specs.Prelude.{◌≡◌, ◌≤◌};
 ghost use Rattle.input_end.specs.Input.{counted_at};
 

@@ -15,7 +15,7 @@ use year::{Year, check_year};
 const OVER: u64 = 1_000_000_000_000;
 
 // A year's cap and floor in whole pounds, or why there are none.
-#[derive(Drop)]
+#[derive(Clone, Copy)]
 pub enum Levels {
     Pounds { cap: i64, floor: i64 },
     Refused(Refusal),

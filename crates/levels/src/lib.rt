@@ -1,5 +1,7 @@
 // The licence book, availability and its target, and the cap and floor levels of a year:
 // rules, sections 3, 5 and 6 (SC2, SC4).
+#![tactic(auto)]
+
 mod levelling;
 mod measuring;
 
@@ -11,7 +13,7 @@ pub use measuring::{Availability, Target, availability_of, check_target};
 use outage::Log;
 
 // What the licence and the regulator set: amounts in whole pounds, targets in MWh, the factor in ten-thousandths.
-#[derive(Drop)]
+#[derive(Clone, Copy)]
 pub struct Book {
     pub regime_end: u32,
     // the targets of years 1 and 25

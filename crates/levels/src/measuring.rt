@@ -13,14 +13,14 @@ use refusals::Refusal;
 use year::Year;
 
 // MW-minutes that the cable could carry in a year, or why there is no figure.
-#[derive(Drop)]
+#[derive(Clone, Copy)]
 pub enum Availability {
     MwMinutes(u64),
     Refused(Refusal),
 }
 
 // Whether a year's target is met, or why that cannot be said.
-#[derive(Drop)]
+#[derive(Clone, Copy)]
 pub enum Target {
     Met,
     Missed,

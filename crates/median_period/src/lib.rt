@@ -1,4 +1,6 @@
 // A period as the regulator's workbook keeps it: first day, last day and median, three floats together. Rules 19.2 and 19.3.
+#![tactic(auto)]
+
 ghost use Rattle.std.specs.Prelude.{◌≡◌};
 ghost use Rattle.median_period.specs.Medians.{day_or, day_number, days_of, good_medians, no_medians};
 ghost use Rattle.median_period.specs.Calls.{MakeGives, MediansGapGives, not_made};
@@ -8,7 +10,7 @@ use refusals::{Answer, Refusal};
 use settlement::{Gap, Period, gap_between};
 
 // A measurement, settlement or reconciliation period, in spreadsheet day numbers. The median may end in a half.
-#[derive(Drop)]
+#[derive(Clone, Copy)]
 pub struct MedianPeriod {
     pub first: f64,
     pub last: f64,
@@ -16,7 +18,7 @@ pub struct MedianPeriod {
 }
 
 // The period of two days, or of three zeros beside a refusal.
-#[derive(Drop)]
+#[derive(Clone, Copy)]
 pub struct MadePeriod {
     pub period: MedianPeriod,
     pub answer: Answer,

@@ -1,5 +1,7 @@
 // A first look at the log: an outage across a midnight, one that touches it, one that overlaps it, one that would lose too
 // much, and the energy lost.
+#![tactic(auto)]
+
 mod say;
 
 use outage::{Entry, Log};

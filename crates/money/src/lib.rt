@@ -1,5 +1,7 @@
 // Signed whole pounds, in the full range of an i64: the few functions on signed numbers that all others are made of.
 // Each answers on every input. What does not fit saturates: the end of the range stands for it.
+#![tactic(auto)]
+
 mod rounding;
 
 ghost use Rattle.std.specs.Prelude.{◌≡◌, leb, pos, negsuc, nat_abs, neg_ℤ, ◌+ℤ◌, ◌-ℤ◌};

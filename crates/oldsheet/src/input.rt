@@ -4,7 +4,7 @@ ghost use Rattle.io.specs.Counts.{IsPrefixLen};
 ghost use Rattle.oldsheet.specs.Input.{ended_by};
 
 // How many bytes were read, and whether the read after them failed.
-#[derive(Drop)]
+#[derive(Clone, Copy)]
 pub(crate) struct Input {
     pub(crate) bytes: usize,
     pub(crate) failed: bool,

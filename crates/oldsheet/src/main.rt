@@ -1,5 +1,7 @@
 // Reads an old day sheet on standard input and prints the outages that it means, a line each; or `refused `, the number, ` at `
 // and the place. Rules, section 17.
+#![tactic(auto)]
+
 mod input;
 mod say;
 

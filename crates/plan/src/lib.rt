@@ -1,4 +1,6 @@
 // A plan of repeating maintenance windows: the outages that it means, and the list of them. Rules, section 18.
+#![tactic(auto)]
+
 mod listing;
 
 ghost use Rattle.std.specs.Prelude.{◌≡◌, min};
@@ -10,7 +12,7 @@ pub use listing::{Listed, list_plan};
 
 // The first start, how many minutes a window lasts, how many days lie from one start to the next, how many windows there are, and
 // the MW lost in each and its cause.
-#[derive(Drop)]
+#[derive(Clone, Copy)]
 pub struct Plan {
     pub start: u32,
     pub length: u32,

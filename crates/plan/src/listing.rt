@@ -11,7 +11,7 @@ use entries::{Entry, good_loss, good_regime_end, good_span};
 use refusals::{Answer, Refusal};
 
 // The outages in order of start, how many there are, the answer, and the number of the outage that fails.
-#[derive(Drop)]
+#[derive(Clone, Copy)]
 pub struct Listed {
     pub entries: [Entry; Plan::MOST_OUTAGES],
     pub count: usize,

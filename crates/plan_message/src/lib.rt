@@ -1,4 +1,6 @@
 // A plan as a message of one field, read and written: rules 18.8 and 18.9.
+#![tactic(auto)]
+
 ghost use Rattle.std.specs.Prelude.{◌≡◌, ◌+◌, ◌≤◌, length};
 ghost use Rattle.std.proofs.Math.Option.{some};
 ghost use Rattle.codec.specs.Buffers.{Wrote};
@@ -11,7 +13,7 @@ use plan::Plan;
 use refusals::{Answer, Refusal, Written};
 
 // A plan as it was read, of any numbers, or of zeros beside a refusal; the answer; the place of a refusal.
-#[derive(Drop)]
+#[derive(Clone, Copy)]
 pub struct PlanRead {
     pub plan: Plan,
     pub answer: Answer,

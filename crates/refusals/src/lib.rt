@@ -1,8 +1,10 @@
 // Why a call is refused, and the number that it then gives: rule 12.1.
+#![tactic(auto)]
+
 ghost use Rattle.std.specs.Prelude.{◌≡◌};
 ghost use Rattle.refusals.specs.Refusals.{answer_number, refusal_number};
 
-#[derive(Drop)]
+#[derive(Clone, Copy)]
 pub enum Refusal {
     // 1: the log breaks one of its rules
     BrokenLog,
@@ -47,14 +49,14 @@ pub enum Refusal {
 }
 
 // The answer of a call that gives nothing else.
-#[derive(Drop)]
+#[derive(Clone, Copy)]
 pub enum Answer {
     Done,
     Refused(Refusal),
 }
 
 // How many bytes were written into a lent buffer, or why none.
-#[derive(Drop)]
+#[derive(Clone, Copy)]
 pub enum Written {
     Length(usize),
     Refused(Refusal),

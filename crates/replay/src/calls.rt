@@ -9,7 +9,7 @@ use outage::Log;
 use year::Year;
 
 // A year after a call, and whether the call set it.
-#[derive(Drop)]
+#[derive(Clone, Copy)]
 pub(crate) struct AfterSet {
     pub(crate) year: Year,
     pub(crate) done: bool,

@@ -18,7 +18,7 @@ const LEFT_OUT: u8 = 1;
 
 // The next field of the script, its value at the front of the space. Its call is 100,000 times its tag and the length;
 // 0 where the field is cut, and where there is none END, which no field has: it is longer than any.
-#[derive(Drop)]
+#[derive(Clone, Copy)]
 pub(crate) struct Field {
     pub(crate) call: u64,
     pub(crate) length: usize,

@@ -1,4 +1,6 @@
 // Carries out a script of calls on standard input and prints every answer: docs/REPLAY.md.
+#![tactic(auto)]
+
 mod asking;
 mod bits;
 mod calls;

@@ -1,4 +1,6 @@
 // The yearly return: its limits and tags, and what reading one gives. Rules, section 10.
+#![tactic(auto)]
+
 ghost use Rattle.std.specs.Prelude.{◌≡◌};
 ghost use Rattle.return_format.specs.Return.{is_left_out, left_out, left_out_as, refused_at};
 
@@ -6,7 +8,7 @@ use refusals::{Answer, Refusal};
 use year::Year;
 
 // A return as it was read: the answer, the place of a refusal, and the year, which is fresh beside a refusal.
-#[derive(Drop)]
+#[derive(Clone, Copy)]
 pub struct Return {
     pub answer: Answer,
     pub place: usize,
@@ -14,14 +16,14 @@ pub struct Return {
 }
 
 // The partial-year factors for cap and floor, PYC and PYF.
-#[derive(Drop)]
+#[derive(Clone, Copy)]
 pub struct Factors {
     pub pyc: u16,
     pub pyf: u16,
 }
 
 // The factors that a return leaves out, or that it leaves out none.
-#[derive(Drop)]
+#[derive(Clone, Copy)]
 pub enum LeftOut {
     Are(Factors),
     Not,

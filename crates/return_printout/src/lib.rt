@@ -1,4 +1,6 @@
 // What `daysheet` prints of a return: rules, section 11.
+#![tactic(auto)]
+
 ghost use Rattle.std.specs.Prelude.{◌≡◌, true, [], ◌≤◌};
 ghost use Rattle.refusals.specs.Refusals.{refusal_number};
 ghost use Rattle.outage.specs.Calls.{lost_of};

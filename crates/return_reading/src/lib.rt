@@ -1,4 +1,6 @@
 // Reads a yearly return from bytes: rules, section 10.
+#![tactic(auto)]
+
 mod fields;
 mod rows;
 
@@ -17,7 +19,7 @@ use rows::{lines_from, outages_from};
 use year::{Line, Year};
 
 // What follows the factors, and where the next field starts.
-#[derive(Drop)]
+#[derive(Clone, Copy)]
 struct Tail {
     lines: [Line; Year::LINES],
     line_count: usize,
@@ -48,7 +50,7 @@ fn tail_from(s: &[u8], from: usize, year: u8) -> Tail
 }
 
 // The four required fields.
-#[derive(Drop)]
+#[derive(Clone, Copy)]
 struct Head {
     number: u8,
     pppi: u32,
@@ -57,7 +59,7 @@ struct Head {
 }
 
 // The four required fields, or the place of the first that is not there.
-#[derive(Drop)]
+#[derive(Clone, Copy)]
 enum Required {
     Are(Head),
     Not(usize),

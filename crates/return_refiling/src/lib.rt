@@ -1,4 +1,6 @@
 // Reads a return and writes it again into a lent buffer: its own bytes come back.
+#![tactic(auto)]
+
 ghost use Rattle.return_refiling.specs.Refiled.{RefileGives};
 
 use refusals::{Answer, Written};

@@ -1,4 +1,6 @@
 // Writes a yearly return into a lent buffer: rules, section 10.
+#![tactic(auto)]
+
 mod checking;
 mod fields;
 mod rows;

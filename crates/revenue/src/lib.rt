@@ -1,4 +1,6 @@
 // Assessed revenue of a year: rules 7.4 to 7.6 (SC5, SC7).
+#![tactic(auto)]
+
 ghost use Rattle.std.specs.Prelude.{◌≡◌, true, ◌≤◌, nat_abs, take};
 ghost use Rattle.year.specs.Year.{good_lines, good_rate};
 ghost use Rattle.revenue.specs.Revenue.{NAR, at_least_zero, counted_as, pounds_of, RevenueGives};
@@ -8,7 +10,7 @@ use refusals::{Answer, Refusal};
 use year::{Line, Year, check_year};
 
 // Assessed revenue in whole pounds, or why there is none.
-#[derive(Drop)]
+#[derive(Clone, Copy)]
 pub enum Revenue {
     Pounds(i64),
     Refused(Refusal),

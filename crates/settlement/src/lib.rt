@@ -1,4 +1,6 @@
 // Settlement and reconciliation with the system operator: rules, section 9 (methodology, equations 1 and 2).
+#![tactic(auto)]
+
 mod medians;
 mod paying;
 mod table;

@@ -8,7 +8,7 @@ ghost use Rattle.settlement.specs.Calls.{gap_figure, gap_number, sums_figure, Ga
 use refusals::Refusal;
 
 // A measurement, settlement or reconciliation period: its first and last day, as spreadsheet day numbers.
-#[derive(Drop)]
+#[derive(Clone, Copy)]
 pub struct Period {
     pub first: u32,
     pub last: u32,
@@ -23,7 +23,7 @@ impl Period {
 }
 
 // A gap in hundredths of a year, or why there is none.
-#[derive(Drop)]
+#[derive(Clone, Copy)]
 pub enum Gap {
     Hundredths(u32),
     Refused(Refusal),

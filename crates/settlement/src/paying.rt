@@ -9,7 +9,7 @@ use money::{credit, debit, is_negative, magnitude, minus, within};
 use refusals::Refusal;
 
 // Whole pounds to pay, or why there is no payment.
-#[derive(Drop)]
+#[derive(Clone, Copy)]
 pub enum Payment {
     Pounds(i64),
     Refused(Refusal),

@@ -510,7 +510,7 @@ const ENTRIES: [u64; 500] = [
 ];
 
 // An entry in billionths, or why there is none.
-#[derive(Drop)]
+#[derive(Clone, Copy)]
 pub enum Growth {
     Billionths(u64),
     Refused(Refusal),

@@ -1,4 +1,6 @@
 // What `oldsheet` prints of an outage: rules, section 16.
+#![tactic(auto)]
+
 ghost use Rattle.std.specs.Prelude.{◌≡◌, [], ◌<◌, ◌≤◌};
 ghost use Rattle.calendar.specs.Years.{days_in};
 ghost use Rattle.entries.specs.Row.{last_regime_end};
@@ -22,20 +24,20 @@ const DAYS_BEFORE: u32 = 30;
 const UNNAMED_CAUSE: u8 = 1;
 
 // What is printed: an empty text beside a refusal.
-#[derive(Drop)]
+#[derive(Clone, Copy)]
 pub struct Printed {
     pub answer: Answer,
     pub text: Text,
 }
 
 // A calendar year, and how many of its days are past.
-#[derive(Drop)]
+#[derive(Clone, Copy)]
 struct InYear {
     year: u32,
     day: u32,
 }
 
-#[derive(Drop)]
+#[derive(Clone, Copy)]
 struct Date {
     year: u32,
     month: u32,

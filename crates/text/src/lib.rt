@@ -1,12 +1,14 @@
 // Text by value, in ASCII: at most 64 bytes, and how many there are. Numbers are in decimal, a negative one behind a
 // minus: rule 11.3.
+#![tactic(auto)]
+
 ghost use Rattle.std.specs.Prelude.{◌≡◌, [], ◌∷◌};
 ghost use Rattle.text.specs.Text.{decimal, digits, pushed, signed_decimal, text_of};
 
 use money::{is_negative, magnitude};
 
 // The bytes past the length are zero in a text made here.
-#[derive(Drop)]
+#[derive(Clone, Copy)]
 pub struct Text {
     pub bytes: [u8; Text::ROOM],
     pub length: usize,

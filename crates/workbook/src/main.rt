@@ -1,5 +1,7 @@
 // Reads the days of a measurement period and the five returns of an assessment period on standard input, and prints the 28 cells of
 // the regulator's workbook, a line of CSV each; or `refused ` and the number. Rules, section 20.
+#![tactic(auto)]
+
 mod input;
 mod say;
 

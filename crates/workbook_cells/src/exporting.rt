@@ -10,7 +10,7 @@ use median_period::MedianPeriod;
 use refusals::{Answer, Refusal};
 
 // The 28 cells, all of them empty beside a refusal.
-#[derive(Drop)]
+#[derive(Clone, Copy)]
 pub struct Exported {
     pub slots: [Slot; Slot::CELLS],
     pub answer: Answer,

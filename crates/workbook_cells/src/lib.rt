@@ -1,4 +1,6 @@
 // The 28 cells of a period: exported, and read back. Rules 19.5 to 19.8.
+#![tactic(auto)]
+
 mod exporting;
 mod reading;
 

@@ -11,7 +11,7 @@ use median_period::MedianPeriod;
 use refusals::{Answer, Refusal};
 
 // The amounts in the order of the cells, the period, the answer, and the index of the first bad cell.
-#[derive(Drop)]
+#[derive(Clone, Copy)]
 pub struct CellsRead {
     pub amounts: [i64; Slot::AMOUNTS],
     pub period: MedianPeriod,
@@ -20,7 +20,7 @@ pub struct CellsRead {
 }
 
 // The amounts, and the index of the first cell that holds none, or how many cells there are.
-#[derive(Drop)]
+#[derive(Clone, Copy)]
 struct AmountsRead {
     amounts: [i64; Slot::AMOUNTS],
     bad: usize,

@@ -1,4 +1,6 @@
 // The cells of a period from its five returns: what `workbook` prints. Rules, section 20.
+#![tactic(auto)]
+
 ghost use Rattle.workbook_filling.specs.Filling.{FillGives};
 
 use median_period::make_period;

@@ -1,4 +1,6 @@
 // The input of `workbook`: two days and the five returns of a period in, the amounts of its workbook out. Rules, section 20.
+#![tactic(auto)]
+
 mod amounts;
 mod logging;
 mod returns;
@@ -17,7 +19,7 @@ use refusals::{Answer, Refusal};
 use returns::read_years;
 
 // The amounts of cells 0 to 24 in their order, and the two days as they were read; zeros beside a refusal.
-#[derive(Drop)]
+#[derive(Clone, Copy)]
 pub struct WorkbookInput {
     pub amounts: [i64; WorkbookInput::AMOUNTS],
     pub first: u32,

@@ -16,7 +16,7 @@ const DAYS: usize = 8;
 const LENGTH: usize = 2;
 
 // Whether the return that comes next is there and one, its year, and how many bytes it has with its length.
-#[derive(Drop)]
+#[derive(Clone, Copy)]
 pub(crate) struct Next {
     pub(crate) good: bool,
     pub(crate) year: Year,
@@ -24,7 +24,7 @@ pub(crate) struct Next {
 }
 
 // Whether the input is two days and the five returns of one period, and their years.
-#[derive(Drop)]
+#[derive(Clone, Copy)]
 pub(crate) struct YearsRead {
     pub(crate) good: bool,
     pub(crate) years: [Year; Yearly::YEARS],

@@ -1,5 +1,7 @@
 // A Relevant Year as it is entered: index, rate, factors, revenue lines, mark, within-period adjustment and log.
 // Rules, section 7.
+#![tactic(auto)]
+
 mod checking;
 
 ghost use Rattle.std.specs.Prelude.{◌≡◌};
@@ -9,7 +11,7 @@ pub use checking::{check_year, good_line};
 use outage::Log;
 
 // A revenue line: its kind, its currency (0 pound, 1 euro) and an amount in that currency.
-#[derive(Drop)]
+#[derive(Clone, Copy)]
 pub struct Line {
     pub kind: u8,
     pub currency: u8,
@@ -47,7 +49,7 @@ impl Line {
 }
 
 // Factors and the index are in ten-thousandths, the rate is pounds per euro in hundred-thousandths.
-#[derive(Drop)]
+#[derive(Clone, Copy)]
 pub struct Year {
     pub number: u8,
     pub pppi: u32,
