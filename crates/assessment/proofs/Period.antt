@@ -1,6 +1,6 @@
 -- What the assessment of the first n years of a period comes to, from what the calls made on the way answer. Assumes nothing.
 use mathlib.Core.Path.{◌≡◌, refl, sym, ap, ◌∙◌}
-use mathlib.Core.Bool.{Bool, true, false, cond, not, ◌&&◌}
+use mathlib.Core.Bool.{Bool, true, cond, not, ◌&&◌}
 use mathlib.Core.List.{List, [], ◌∷◌, map}
 use Prim.Native.Nat.{ℕ, zero, suc, ◌≤◌, ◌<◌}
 use native.Mathlib.Omega.{arith}
@@ -10,11 +10,9 @@ use lib.IntN.{ℤ, pos}
 use lib.Signed.{lt_z, non_neg}
 use Rattle.lists.specs.Lists.{all}
 use Rattle.lists.proofs.Tests.{and_left, and_right, and_made, not_no}
-use Rattle.refusals.specs.declared.Refusal.{Refusal}
 use Rattle.refusals.specs.declared.Refusal.TheVariants.{BadBook, BrokenLog, BadYear, TooLarge, FloorAboveCap}
-use Rattle.refusals.specs.declared.Answer.TheVariants as answer
-use Rattle.refusals.specs.Refusals.{first_applicable, accepted, refusal_number}
-use Rattle.refusals.proofs.Laws.{all_clear, never_zero, refused_not}
+use Rattle.refusals.specs.Refusals.{first_applicable}
+use Rattle.refusals.proofs.Laws.{all_clear}
 use Rattle.outage.specs.declared.Log.{Log}
 use Rattle.outage.specs.Log.{valid_log}
 use Rattle.year.specs.declared.Year.{Year}
@@ -31,7 +29,6 @@ use Rattle.levels.proofs.Ranges.{cap_good, floor_good}
 use Rattle.revenue.specs.Revenue.{assessed_revenue}
 use Rattle.balances.specs.declared.assessing.Yearly.{Yearly}
 use Rattle.balances.specs.declared.assessing.Assessment.{Assessment}
-use Rattle.balances.specs.declared.assessing.Assessment.TheVariants.{Refused}
 use Rattle.balances.specs.Balance.{good_count, good_index, good_yearly_amount, good_amounts}
 use Rattle.balances.specs.Assessment.{CLN, FLN, assess_rows_of, balances_within, figures_in, assessable, no_figures, not_negative, assess_number, YearsGives}
 use Rattle.assessment.specs.Period.{period_rows_of, year_fits, first_rows, yearly_of, good_period_years, one_period}
@@ -95,27 +92,6 @@ module _ (book : Book) (years : List Year) (log : Log) (n : ℕ) where
   abbrev yearly : Yearly
   yearly = yearly_of book years log n
 
-  -- a refusal's number says that nothing is given
-  gives_none : (why : Refusal) → refusal_number why ≡ first_applicable (period_rows_of book years log n) → FirstGives book years log n (Refused why)
-  gives_none why e =
-      let none : accepted (period_rows_of book years log n) ≡ false = refused_not (answer.Refused why) (period_rows_of book years log n) why e refl in
-      (e, ap (λ (b : Bool). cond b (figures_in yearly n) no_figures) (sym none))
-
-  -- the book or the log is refused, as it is for the first year
-  pub gives_no_availability : (r : Availability) (why : Refusal) → AvailabilityGives book log 1 r → r ≡ availability.Refused why → FirstGives book years log n (Refused why)
-  gives_no_availability r why g e =
-      let stop = same_stop (book_holds book log.regime_end) (valid_log log) (not (good_period_years years n)) (not (all (year_fits book log) (take n years) && balances_within yearly n)) (lt_z (CLN yearly n) (FLN yearly n)) in
-      let m : refusal_number why ≡ first_applicable (availability_rows book log 1) = sym (ap availability_number e) ∙ g.0 in
-      gives_none why (m ∙ stop (omega (arith, never_zero why)))
-    where
-      same_stop : (b v y t f : Bool)
-          → 0 < first_applicable ((BadBook, not b) ∷ (BrokenLog, not v) ∷ (BadYear, false) ∷ [])
-          → first_applicable ((BadBook, not b) ∷ (BrokenLog, not v) ∷ (BadYear, false) ∷ [])
-          ≡ first_applicable ((BadBook, not b) ∷ (BrokenLog, not v) ∷ (BadYear, y) ∷ (TooLarge, t) ∷ (FloorAboveCap, f) ∷ [])
-      same_stop false v y t f h = refl
-      same_stop true false y t f h = refl
-      same_stop true true y t f h = absurd (omega arith)
-
   pub book_told : (r : Availability) (x : ℕ) → AvailabilityGives book log 1 r → r ≡ availability.MwMinutes x → book_holds book log.regime_end ≡ true
   book_told r x g e =
       not_no (book_holds book log.regime_end) (all_clear (availability_rows book log 1) (sym g.0 ∙ ap availability_number e)).0
@@ -124,12 +100,6 @@ module _ (book : Book) (years : List Year) (log : Log) (n : ℕ) where
   log_told r x g e = not_no (valid_log log) (all_clear (availability_rows book log 1) (sym g.0 ∙ ap availability_number e)).1.0
 
   module _ (b : book_holds book log.regime_end ≡ true) (v : valid_log log ≡ true) where
-    pub gives_bad_years : good_period_years years n ≡ false → FirstGives book years log n (Refused BadYear)
-    gives_bad_years g = let m : 9 ≡ first_applicable (period_rows_of book years log n) = simp (b, v, g) in gives_none BadYear m
-
-    pub gives_too_large : good_period_years years n ≡ true → all (year_fits book log) (take n years) ≡ false → FirstGives book years log n (Refused TooLarge)
-    gives_too_large g f = let m : 11 ≡ first_applicable (period_rows_of book years log n) = simp (b, v, g, f) in gives_none TooLarge m
-
     -- the balances' answer is the period's
     pub gives_assessed : good_count n ≡ true → n ≤ length years → good_period_years years n ≡ true → all (year_fits book log) (take n years) ≡ true
         → (r : Assessment) → YearsGives yearly n r → FirstGives book years log n r

@@ -92,14 +92,8 @@ module _ (number k n : ℕ) (years : List Year) (d : Year) (fits : n ≤ length 
   pub rest_bad_year : good_year this ≡ false → good_rest number k (take n years) ≡ false
   rest_bad_year f = rest_is ∙ simp f
 
-  pub rest_bad_number : good_year this ≡ true → (this.number ≡ number + k → ⊥) → good_rest number k (take n years) ≡ false
-  rest_bad_number g f = rest_is ∙ simp (g, ne_eqb this.number (number + k) f) (and_false (all good_year later))
-
   pub rest_next : good_year this ≡ true → this.number ≡ number + k → good_rest number k (take n years) ≡ good_rest number (k + 1) (take n years)
   rest_next g f = rest_is ∙ simp (g, eq-eqb this.number (number + k) f)
-
-pub rest_start : (number : ℕ) (years : List Year) → good_from number years ≡ good_rest number 0 years
-rest_start number years = let e : number ≡ number + 0 = omega arith in ap (λ (n : ℕ). all good_year years && numbers_from n years) e
 
 -- ---- one period
 period_first : (years : List Year) (n : ℕ) (d : Year) → 1 ≤ n → 1 ≤ length years

@@ -57,6 +57,7 @@ fn good_from(years: [Year; Yearly::YEARS], n: usize, number: u8) -> bool
 }
 
 // The first n years are in range, and those of one assessment period, in order.
+#[tactic(auto, using(crate::proofs::Years::period_other, crate::proofs::Years::period_start))]
 fn good_period_years(years: [Year; Yearly::YEARS], n: usize) -> bool
     requires { (1 ≤ n) × (n ≤ period_years) }
     ensures { result ≡ good_period_years years n }

@@ -125,13 +125,6 @@ module _ (regime_end minute : ℕ) where
           rw (eq-eqb minute (year_end (suc n) regime_end) (e ∙ ap (λ (y : ℕ). year_end y regime_end) is)) refl
       by (inr h) earlier = either (eqb minute (year_end (suc n) regime_end)) (earlier (omega arith))
 
-  -- none of those before a year ends there, and it does not
-  pub none_ends : (year : ℕ) → 1 ≤ year → (minute ≡ year_end year regime_end → ⊥) → one_ends_at regime_end minute (year - 1) ≡ false → one_ends_at regime_end minute year ≡ false
-  none_ends zero l h e = absurd (omega arith)
-  none_ends (suc n) l h e =
-      let p : suc n - 1 ≡ n = omega arith in
-      rw (ne_eqb minute (year_end (suc n) regime_end) h) (rw p at e)
-
   pub year_ends : (year : ℕ) → 1 ≤ year → year ≤ 25 → minute ≡ year_end year regime_end → is_year_end regime_end minute ≡ true
   unfolding is_year_end
   year_ends year l m e = one_ends 25 year l m e

@@ -7,7 +7,7 @@ use native.Mathlib.Omega.{arith}
 use native.Mathlib.Nat.{mul_right_comm}
 use borrow.Author.Tests.{eqb-true, eq-eqb}
 use lib.Dec.{eqb}
-use lib.Ieee.{Float, fin, down}
+use lib.Ieee.{Float, nan, inf, fin, down}
 use lib.Ieee.Exact.{HasValue}
 use Rattle.floats.specs.Floats.{between, half_days, times_of, whole_day}
 use Rattle.floats.proofs.Days.{between_is, between_some, positive}
@@ -22,9 +22,13 @@ half_of none = none
 half_of (some k) = cond (eqb (k % 2) 0) (some (k / 2)) none
 
 twice_value : (x : Float) (d : ℕ) → HasValue x false d 1 → HasValue x false (d * 2) 2
+twice_value nan d p = absurd p
+twice_value (inf _) d p = absurd p
 twice_value (fin s m e) d p = (p.0, omega (arith, p.1, mul_right_comm d 2 (down e)))
 
 half_value : (x : Float) (d : ℕ) → HasValue x false (d * 2) 2 → HasValue x false d 1
+half_value nan d p = absurd p
+half_value (inf _) d p = absurd p
 half_value (fin s m e) d p = (p.0, omega (arith, p.1, mul_right_comm d 2 (down e)))
 
 -- a whole day, doubled

@@ -1,6 +1,5 @@
 -- Laws on numbers, fields, formats and buffers.
 pub mod Numbers
-pub mod Complement
 pub mod Values
 pub mod Items
 pub mod Fields

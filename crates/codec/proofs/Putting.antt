@@ -81,9 +81,3 @@ module _ {A : Type 0} {f : List A → Item A} {row : List A} {count : ℕ} {o : 
   pub one_put : {o2 : List ℕ} {n2 : ℕ} (d : A) → i < count → Wrote now next ((f (take i row)).text (get_or row i d)) o2 n2 → Putting f row count o at o2 n2 (i + 1)
   one_put d h w =
       record { passed = omega arith; slots = p.slots; room = p.room; laid = rw (texts_more f d row i (omega (arith, p.slots))) (then p.laid w) }
-
-  -- all are
-  pub all_put : count ≤ i → Wrote o at (texts f [] (take count row)) now next
-  all_put h =
-      let e : i ≡ count = omega (arith, p.passed) in
-      rw e at p.laid

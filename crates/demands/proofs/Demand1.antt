@@ -135,7 +135,7 @@ whole_place re bs e =
 pub demand_1 : Demand1
 demand_1 = record {
   empty = one_empty;
-  check_log = logs.one-check;
+  check_log = logs.one_check;
   enter = one_enter;
   cancel = one_cancel;
   close = one_close;
@@ -143,7 +143,7 @@ demand_1 = record {
   enter_plan = one_enter_plan;
   lost = one_lost;
   minutes = one_minutes;
-  check_year = years.one-check;
+  check_year = years.one_check;
   availability = one_availability;
   target = one_target;
   levels = one_levels;

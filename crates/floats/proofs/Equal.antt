@@ -33,6 +33,8 @@ own_sign false = tt
 -- ---- `==`: equal floats have equal sizes, and equal signs but for a zero
 pub size : (y x : Float) (s : Bool) (a c : ℕ) → HasValue y s a c → T (eq y x) → Equals x a c
 unfolding eq
+size nan _ s a c p t = absurd p
+size (inf _) _ s a c p t = absurd p
 size (fin u m e) nan s a c p t = t
 size (fin u m e) (inf v) s a c p t = t
 size (fin u m e) (fin v n d) s a c p t =
@@ -48,6 +50,8 @@ size (fin u m e) (fin v n d) s a c p t =
 
 pub value : (y x : Float) (s : Bool) (a c : ℕ) → 0 < a → HasValue y s a c → T (eq y x) → HasValue x s a c
 unfolding eq
+value nan _ s a c P p t = absurd p
+value (inf _) _ s a c P p t = absurd p
 value (fin u m e) nan s a c P p t = t
 value (fin u m e) (inf v) s a c P p t = t
 value (fin u m e) (fin v n d) s a c P p t =
@@ -68,6 +72,10 @@ value (fin u m e) (fin v n d) s a c P p t =
 
 pub equal : (y x : Float) (s : Bool) (a c : ℕ) → 0 < c → HasValue y s a c → HasValue x s a c → T (eq y x)
 unfolding eq
+equal nan _ s a c C p q = absurd p
+equal (inf _) _ s a c C p q = absurd p
+equal (fin u m e) nan s a c C p q = absurd q
+equal (fin u m e) (inf _) s a c C p q = absurd q
 equal (fin u m e) (fin v n d) s a c C p q =
     let A = m * up e * down d in
     let B = n * up d * down e in
@@ -83,6 +91,8 @@ equal (fin u m e) (fin v n d) s a c C p q =
 
 pub equal_zeros : (x : Float) → Equals x 0 1 → T (eq (fin false 0 (pos 0)) x)
 unfolding eq
+equal_zeros nan p = absurd p
+equal_zeros (inf _) p = absurd p
 equal_zeros (fin t m e) p =
     and_i (eqb (0 * down e) (m * up e * 1)) (beq false t || eqb (0 * down e) 0) (eq→eqb {a = 0 * down e} {b = m * up e * 1} (sym p))
     (or_second (beq false t) (eqb (0 * down e) 0) (eq→eqb {a = 0 * down e} {b = 0} (zero-mul (down e))))
@@ -96,11 +106,15 @@ over_one k j h = omega arith
 
 pub over : (x : Float) (a : ℕ) → HasValue x false a 1 → T (lt (fin true 1 (pos 0)) x)
 unfolding lt
+over nan a p = absurd p
+over (inf _) a p = absurd p
 over (fin true n d) a p = absurd (true≢false p.0)
 over (fin false n d) a p = lt→ltb 0 (1 * down d + n * up d * 1) (over_one (down d) (n * up d * 1) (down_pos d))
 
 pub under : (x : Float) (a : ℕ) → a < 2 ^ 64 → HasValue x false a 1 → T (lt x (fin false 1 (pos 64)))
 unfolding lt
+under nan a h p = absurd p
+under (inf _) a h p = absurd p
 under (fin true n d) a h p = absurd (true≢false p.0)
 under (fin false n d) a h p =
     lt→ltb (n * up d * 1) (1 * 2 ^ 64 * down d) (subst (λ (k : ℕ). k < 1 * 2 ^ 64 * down d) (sym p.1) (mul-lt-mul_of_pos_right h (down_pos d)))
@@ -110,6 +124,8 @@ whole_part m d a D p = ap (λ (k : ℕ). k / d) (bare m a d p) ∙ mul-div_cance
 
 pub cut : (x : Float) (a : ℕ) → a < 2 ^ 64 → HasValue x false a 1 → to_unsigned 64 x ≡ a
 unfolding to_unsigned
+cut nan a h p = absurd p
+cut (inf _) a h p = absurd p
 cut (fin true n d) a h p = absurd (true≢false p.0)
 cut (fin false n d) a h p = ap (λ (k : ℕ). min k (2 ^ 64 - 1)) (whole_part (n * up d) (down d) a (down_pos d) p.1) ∙ low a h
   where
@@ -128,6 +144,8 @@ either_side j k h = (omega arith, omega arith)
 
 pub not_below : (x : Float) (a : ℕ) → a < 2 ^ 63 → Equals x a 1 → T (le (fin true 1 (pos 63)) x)
 unfolding le lt
+not_below nan a h p = absurd p
+not_below (inf _) a h p = absurd p
 not_below (fin true m e) a h p =
     or_first (ltb (m * up e * 1) (1 * 2 ^ 63 * down e)) (eq (fin true 1 (pos 63)) (fin true m e))
     (lt→ltb (m * up e * 1) (1 * 2 ^ 63 * down e) (shorter (m * up e) (down e) a (down_pos e) h p))
@@ -137,12 +155,16 @@ not_below (fin false m e) a h p =
 
 pub below : (x : Float) (a : ℕ) → a < 2 ^ 63 → Equals x a 1 → T (lt x (fin false 1 (pos 63)))
 unfolding lt
+below nan a h p = absurd p
+below (inf _) a h p = absurd p
 below (fin false m e) a h p = lt→ltb (m * up e * 1) (1 * 2 ^ 63 * down e) (shorter (m * up e) (down e) a (down_pos e) h p)
 below (fin true m e) a h p =
     lt→ltb 0 (m * up e * 1 + 1 * 2 ^ 63 * down e) (either_side (m * up e * 1) (1 * 2 ^ 63 * down e) (wide (down e) (down_pos e))).0
 
 pub cut_positive : (x : Float) (a : ℕ) → a < 2 ^ 63 → HasValue x false a 1 → to_signed 63 x ≡ pos a
 unfolding to_signed
+cut_positive nan a h p = absurd p
+cut_positive (inf _) a h p = absurd p
 cut_positive (fin true m e) a h p = absurd (true≢false p.0)
 cut_positive (fin false m e) a h p = ap (λ (k : ℕ). pos (min k (2 ^ 63 - 1))) (whole_part (m * up e) (down e) a (down_pos e) p.1) ∙ ap pos (low a h)
   where
@@ -151,6 +173,8 @@ cut_positive (fin false m e) a h p = ap (λ (k : ℕ). pos (min k (2 ^ 63 - 1)))
 
 pub cut_negative : (x : Float) (a : ℕ) → a < 2 ^ 63 → HasValue x true a 1 → to_signed 63 x ≡ neg_ℤ (pos a)
 unfolding to_signed
+cut_negative nan a h p = absurd p
+cut_negative (inf _) a h p = absurd p
 cut_negative (fin false m e) a h p = absurd (true≢false (sym p.0))
 cut_negative (fin true m e) a h p =
     ap (λ (k : ℕ). neg_ℤ (pos (min k (2 ^ 63)))) (whole_part (m * up e) (down e) a (down_pos e) p.1) ∙ ap (λ (k : ℕ). neg_ℤ (pos k)) (low a h)

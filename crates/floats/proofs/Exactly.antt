@@ -1,6 +1,6 @@
 -- Whole numbers below 2 ^ 53, their sums and their halves are floats without a rounding. Assumes nothing.
 use Rattle.std.proofs.Common.{◌≡◌, ℕ, ◌+◌, ◌*◌, ◌^◌, ◌<◌, Bool, true, false, pos, sym, refl, ap, ◌∙◌, subst, true≢false, lt_of_lt_of_le, mul_assoc, mul_comm, add-mul, mul-pos, mul-one, lit<, lit≤, pow_mono, shl_lt}
-use lib.Ieee.{Float, fin, binary64, up, down, round, add, sum, mul, of_int, of_bits}
+use lib.Ieee.{Float, nan, inf, fin, binary64, up, down, round, add, sum, mul, of_int, of_bits}
 use lib.Ieee.Fits.{down_pos}
 use lib.Ieee.Exact.{HasValue, round_exact}
 use lib.Ieee.Scale.{round_same}
@@ -33,6 +33,10 @@ cross m e n d a b p q =
 
 sum_at : (x y : Float) (a b : ℕ) → HasValue x false a 1 → HasValue y false b 1 → add binary64 x y ≡ round binary64 false (a + b) 1
 unfolding add sum
+sum_at nan y a b p q = absurd p
+sum_at (inf _) y a b p q = absurd p
+sum_at (fin false m e) nan a b p q = absurd q
+sum_at (fin false m e) (inf _) a b p q = absurd q
 sum_at (fin true m e) y a b p q = absurd (true≢false p.0)
 sum_at (fin false m e) (fin true n d) a b p q = absurd (true≢false q.0)
 sum_at (fin false m e) (fin false n d) a b p q =

@@ -2,7 +2,7 @@
 use Rattle.std.proofs.Common.{◌≡◌, ℕ, zero, suc, ◌^◌, ◌<◌, ◌≤◌, Bool, true, false, cond, T, leb, ℤ, pos, negsuc, nat_abs, sym, refl, ap, ◌∙◌, subst, true≢false, arith, ltb-false, le-ltb, le-leb, leb-true}
 use mathlib.Core.Option.{Option, some, none}
 use lib.Signed.{lt_z}
-use lib.Ieee.{Float, fin, binary64, fits, of_int, eq, lt, le, to_signed}
+use lib.Ieee.{Float, nan, inf, fin, binary64, fits, of_int, eq, lt, le, to_signed}
 use lib.Ieee.Fits.{of_int-fits}
 use lib.Ieee.Bits.{is_true}
 use lib.Ieee.Back.{whole_unique}
@@ -54,6 +54,8 @@ no_pounds x never = by (whole_pounds x) refl
 
 -- ---- what the tests and the cut make of a number
 sized : (x : Float) (s : Bool) (a : ℕ) → HasValue x s a 1 → Equals x a 1
+sized nan s a p = absurd p
+sized (inf _) s a p = absurd p
 sized (fin t m e) s a p = p.1
 
 cut_is : (x : Float) (z : ℤ) → nat_abs z ≤ most_pounds → Says x 1 z → to_signed 63 x ≡ z
@@ -73,6 +75,8 @@ same : (x : Float) (z : ℤ) → nat_abs z ≤ most_pounds → Says x 1 z → T 
 same x z h s = subst (λ (v : ℤ). T (eq (of_int binary64 v) x)) s.is (same_signed x s.sign (nat_abs z) (omega arith) s.has)
 
 either_zero : (x : Float) → Equals x 0 1 → whole_in x ≡ some (pos 0)
+either_zero nan p = absurd p
+either_zero (inf _) p = absurd p
 either_zero (fin false m e) p = times_is (fin false m e) false 0 1 (refl, p)
 either_zero (fin true m e) p = times_is (fin true m e) true 0 1 (refl, p)
 

@@ -15,6 +15,8 @@ signed_size true (suc n) = refl
 -- the number of a value
 pub times_is : (x : Float) (s : Bool) (a c : ℕ) → HasValue x s a c → times_of c x ≡ some (signed s a)
 unfolding times_of
+times_is nan s a c p = absurd p
+times_is (inf _) s a c p = absurd p
 times_is (fin t m e) s a c p =
     let k = m * up e * c in
     let even : k % down e ≡ 0 = ap (λ (n : ℕ). n % down e) p.1 ∙ mul-mod_left a (down e) in

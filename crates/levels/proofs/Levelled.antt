@@ -12,20 +12,25 @@ use Rattle.refusals.specs.declared.Answer.{Answer}
 use Rattle.refusals.specs.declared.Answer.TheVariants as answer
 use Rattle.refusals.specs.Refusals.{first_applicable, accepted, refusal_number, answer_number}
 use Rattle.refusals.proofs.Laws.{all_clear, beside_accepted, never_zero, refused_not}
+use Rattle.calendar.specs.declared.YearMinutes.{YearMinutes}
 use Rattle.calendar.specs.Years.{good_year_number}
 use Rattle.outage.specs.declared.Log.{Log}
+use Rattle.outage.specs.declared.losing.LostEnergy.{LostEnergy}
 use Rattle.outage.specs.Log.{valid_log}
 use Rattle.year.specs.declared.Year.{Year}
 use Rattle.year.specs.Year.{good_year, CheckYearGives}
 use Rattle.year.proofs.Says.{year_says, checked_bad}
 use Rattle.levels.specs.declared.Book.{Book}
+use Rattle.levels.specs.declared.measuring.Availability.{Availability}
 use Rattle.levels.specs.declared.measuring.Target.{Target}
 use Rattle.levels.specs.declared.measuring.Target.TheVariants as target
 use Rattle.levels.specs.declared.levelling.Levels.TheVariants as levels
 use Rattle.levels.specs.Book.{book_holds, good_book}
 use Rattle.levels.specs.Availability.{meets_target, availability_rows, target_number, target_met, TargetGives}
 use Rattle.levels.specs.Levels.{aif_of, cap_level, floor_level, floor_of, level_fits, levels_rows, LevelsGives}
+use Rattle.levels.specs.Steps.{measured_of, tested_of}
 use Rattle.levels.proofs.Says.{holds_good}
+use Rattle.levels.proofs.Measured.{Asked, tested_gives}
 
 -- a row that stops the target stops the levels, with the same number: a bad number makes a bad year
 same_stop : (b v n y t : Bool) → (y ≡ true → n ≡ true)
@@ -58,6 +63,16 @@ module _ (book : Book) (y : Year) (log : Log) where
 pub record Told (book : Book) (y : Year) (log : Log) (t : Target) : Type 0 where
   pub gives : TargetGives book log y.number t
   pub clear : target_number t ≡ 0
+
+-- a target that is not refused
+not_refused : (t : Target) → ((why : Refusal) → t ≡ target.Refused why → ⊥) → target_number t ≡ 0
+not_refused target.Met f = refl
+not_refused target.Missed f = refl
+not_refused (target.Refused why) f = absurd (f why refl)
+
+pub told_by : (book : Book) (y : Year) {log : Log} {m : YearMinutes} {l : LostEnergy} → Asked log y.number m l → (r : Availability) → r ≡ measured_of (book_holds book log.regime_end) m l
+    → (t : Target) → t ≡ tested_of book y.number r → ((why : Refusal) → t ≡ target.Refused why → ⊥) → Told book y log t
+told_by book y a r e t g f = record { gives = tested_gives book a r e t g; clear = not_refused t f }
 
 module _ {book : Book} {y : Year} {log : Log} {t : Target} (told : Told book y log t) where
   rows_clear : first_applicable (availability_rows book log y.number) ≡ 0

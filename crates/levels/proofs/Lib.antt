@@ -2,6 +2,7 @@
 pub mod Says
 pub mod Ranges
 pub mod Split
+pub mod Signs
 pub mod Only
 pub mod Measured
 pub mod Levelled

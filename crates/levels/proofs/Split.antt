@@ -9,10 +9,10 @@ use Rattle.money.proofs.Nearest.{rounded_is}
 
 -- what the divisor goes into whole, and what is left
 module _ (p x d : ℕ) where
-  abbrev quotient_of : ℕ
+  abbrev pub quotient_of : ℕ
   quotient_of = p / d * x + p % d * x / d
 
-  abbrev rest_of : ℕ
+  abbrev pub rest_of : ℕ
   rest_of = p % d * x % d
 
   together : p * x ≡ quotient_of * d + rest_of

@@ -62,6 +62,7 @@ fn good_sum(preliminary: i64, construction: i64, opex: i64) -> bool
 }
 
 // Every entry of the book is in range.
+#[tactic(auto, unfolding(crate::specs::Book::good_book))]
 fn good_book(b: Book) -> bool
     ensures { result ≡ good_book b }
 {

@@ -25,7 +25,7 @@ sfits z h = record { sfits = omega (arith, mag_le z) }
 
 -- what is read back from 64 bits is what went in
 pub wire : (z : ℤ) → mag z < 2 ^ 63 → to_z w64 (of_z w64 z) ≡ z
-wire z h = to_z-of_z (record { sfits = h })
+wire z h = to_z-of_z {w = w64} (record { sfits = h })
 
 -- ---- magnitudes
 abs_less : (a b : ℕ) (t : Bool) → ltb a b ≡ t → nat_abs (cond t (negsuc (b - suc a)) (pos (a - b))) ≤ a + b

@@ -8,6 +8,7 @@ use super::{credit, debit, is_negative, magnitude, within};
 const MOST_WHOLE: u64 = 18_446_744_073_709_551_615;
 
 // What the rest of a division by d adds to its quotient q: 1 where it rounds up, else 0.
+#[tactic(auto, unfolding(crate::specs::Rounding::up_of))]
 fn up(q: u64, rest: u64, d: u64) -> u64
     requires { (rest < d) × (d ≤ 1000000000000) }
     ensures { result ≡ up_of q rest d }
@@ -22,6 +23,7 @@ fn up(q: u64, rest: u64, d: u64) -> u64
 }
 
 // A quotient rounded by the rest of its division, saturated: for a divisor of 1 to 10^12 and a rest below it; else 0.
+#[tactic(auto, unfolding(crate::specs::Rounding::rounded_of))]
 pub fn rounded(quotient: u64, rest: u64, divisor: u64) -> u64
     ensures { result ≡ rounded_of quotient rest divisor }
 {

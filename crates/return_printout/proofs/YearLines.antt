@@ -7,7 +7,7 @@ use native.Mathlib.Nat.{not-suc-le-zero}
 use native.Mathlib.Omega.{arith}
 use borrow.Author.Tests.{leb-true, eqb-true, eq-eqb, ne_eqb}
 use lib.Dec.{leb, eqb}
-use lib.IntN.{ℤ, pos, nat_abs}
+use lib.IntN.{ℤ, nat_abs}
 use lib.ListN.{length, length-append}
 use Rattle.lists.proofs.Tests.{not_no}
 use Rattle.refusals.specs.Refusals.{accepted, first_applicable, refusal_number}
@@ -21,8 +21,7 @@ use Rattle.outage.proofs.Most.{lost_given, valid_stretch}
 use Rattle.year.specs.declared.Year.{Year}
 use Rattle.year.specs.Year.{good_year}
 use Rattle.year.proofs.Says.{YearSays, year_says}
-use Rattle.revenue.specs.declared.Revenue.TheVariants.{Pounds, Refused}
-use Rattle.revenue.specs.Revenue.{assessed_revenue, revenue_rows, RevenueGives}
+use Rattle.revenue.specs.Revenue.{assessed_revenue, revenue_rows}
 use Rattle.text.specs.declared.Text.{Text}
 use Rattle.text.specs.Text.{pushed, room, text_of}
 use Rattle.text.proofs.Laws.{digits_few, signed_few, pushed_text}
@@ -89,27 +88,6 @@ module _ (y : Year) (v : valid_year y ≡ true) where
   unfolding year_lines
   year_lines_room z h =
       simp length-append (omega (arith, digits_few 20 y.number 2 (omega arith) (omega (arith, said.to_last)), digits_few 20 (lost_in_year y) 10 (omega arith) lost_small, digits_few 20 (lost_after y) 11 (omega arith) after_small, signed_few z 10 (omega arith) h))
-
--- ---- what is printed of a year, by what its revenue is answered
-pub record Assessed (y : Year) (z : ℤ) : Type 0 where
-  pub is : z ≡ assessed_revenue y
-  pub given : accepted (revenue_rows y) ≡ true
-  pub small : nat_abs z ≤ 1000000000
-
-pub assessed : (y : Year) (z : ℤ) → RevenueGives y (Pounds z) → Assessed y z
-assessed y z g =
-    let t : accepted (revenue_rows y) ≡ true = eq-eqb (first_applicable (revenue_rows y)) 0 (sym g.0) in
-    let e : z ≡ assessed_revenue y = g.1 ∙ ap (λ (b : Bool). cond b (assessed_revenue y) (pos 0)) t in
-    let s : nat_abs (assessed_revenue y) ≤ 1000000000 = leb-true _ _ (not_no _ (all_clear (revenue_rows y) (sym g.0)).1.0) in
-    record { is = e; given = t; small = omega (arith, ap nat_abs e) }
-
-pub year_lines_printed : (y : Year) (z : ℤ) → Assessed y z → year_lines y.number (lost_in_year y) (lost_after y) z ≡ printed_year y
-year_lines_printed y z a = rw a.given (ap (year_lines y.number (lost_in_year y) (lost_after y)) a.is)
-
-pub refusal_printed : (y : Year) (why : Refusal) → RevenueGives y (Refused why) → refusal_of (refusal_number why) ≡ printed_year y
-refusal_printed y why g =
-    let t : accepted (revenue_rows y) ≡ false = ne_eqb (first_applicable (revenue_rows y)) 0 (λ e. not-suc-le-zero {n = 0} (omega (arith, never_zero why, g.0))) in
-    rw t (ap refusal_of g.0)
 
 -- ---- it has room
 pub refusal_room : (n : ℕ) → n < 100 → length (refusal_of n) ≤ 64

@@ -1,30 +1,20 @@
 -- What is read is written again as it was. Assumes nothing.
-use mathlib.Core.Path.{◌≡◌, refl, ap, ◌∙◌}
+use mathlib.Core.Path.{◌≡◌, ap, ◌∙◌}
 use mathlib.Core.Bool.{true, false}
-use mathlib.Core.List.{List, []}
+use mathlib.Core.List.{List}
 use Prim.Native.Nat.{ℕ}
 use Rattle.lists.proofs.Tests.{and_left, and_right}
-use Rattle.refusals.specs.declared.Refusal.{Refusal}
-use Rattle.refusals.specs.Refusals.{first_applicable, refusal_number}
-use Rattle.refusals.proofs.Laws.{last_row}
-use Rattle.refusals.specs.declared.Refusal.TheVariants.{Malformed}
+use Rattle.refusals.specs.Refusals.{first_applicable}
 use Rattle.outage.specs.Log.{valid_log}
 use Rattle.year.specs.declared.Year.{Year}
 use Rattle.codec.specs.Theorems.{Bytes}
 use Rattle.return_format.specs.Return.{is_refused, reading_of, read_rows, read_year, writable, valid_year, return_of}
 use Rattle.refusals.specs.declared.Written.{Written}
-use Rattle.refusals.specs.declared.Written.TheVariants.{Refused}
 use Rattle.return_writing.specs.Written.{WriteGives}
 use Rattle.return_round_trip.proofs.RoundTrip.{accepted_whole, read_written}
 use Rattle.return_refiling.specs.Refiled.{RefileGives}
 
 module _ (bs out : List ℕ) where
-  -- a refused reading
-  pub refused_again : (why : Refusal) → refusal_number why ≡ first_applicable (read_rows bs) → RefileGives bs out (Refused why) out
-  refused_again why e =
-      let k = last_row [] Malformed why (is_refused (reading_of bs)) tt e in
-      rw k.0 (ap refusal_number k.1, refl, refl)
-
   -- a year that was read is written as the bytes that it was read from
   pub written_again : Bytes bs → first_applicable (read_rows bs) ≡ 0 → (y : Year) → y ≡ read_year bs → (r : Written) {after : List ℕ} → WriteGives y out r after → RefileGives bs out r after
   written_again b e y is r g =

@@ -1,6 +1,6 @@
 -- The fields of a return, from what is written of each. Assumes nothing.
 use mathlib.Core.Path.{◌≡◌, ap}
-use mathlib.Core.Bool.{true, false, cond}
+use mathlib.Core.Bool.{true, cond}
 use mathlib.Core.List.{List, ◌++◌}
 use Prim.Native.Nat.{ℕ, ◌+◌, ◌≤◌}
 use native.Mathlib.Omega.{arith}
@@ -14,14 +14,11 @@ use Rattle.codec.specs.Fields.{head}
 use Rattle.codec.specs.Format.{field_of}
 use Rattle.codec.specs.Buffers.{Wrote}
 use Rattle.codec.specs.Leaves.{number_bytes, number_field_bytes}
-use Rattle.codec.proofs.Buffers.{then, nothing}
+use Rattle.codec.proofs.Buffers.{then}
 use Rattle.codec.proofs.Putting.{room_after, room_for, Laid, run_then, number_then, number_last, field_then, field_last}
 use Rattle.return_format.specs.Form.{factors_value, wpa_value, line_value, mark, required}
 use Rattle.return_format.specs.Return.{return_of}
 use Rattle.return_writing.proofs.Sizes.{parts_of, headed, factored, lined, logged, marked, paid}
-
-pub mark_left : {t : _} (o : List ℕ) (at : ℕ) → t ≡ false → Wrote o at (mark.write (cond t 1 0)) o at
-mark_left o at e = rw e (nothing o at)
 
 module _ {o : List ℕ} {at : ℕ} {o1 : List ℕ} {n1 : ℕ} where
   pub mark_laid : {t : _} → t ≡ true → at + length (mark.write (cond t 1 0)) ≤ length o → Laid o at (number_field_bytes 8 1 1) o1 n1 → Wrote o at (mark.write (cond t 1 0)) o1 n1

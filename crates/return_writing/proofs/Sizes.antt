@@ -12,7 +12,6 @@ use Rattle.lists.specs.Lists.{total}
 use Rattle.lists.proofs.Lists.{total_append}
 use Rattle.lists.proofs.Tests.{and_left, and_right}
 use Rattle.entries.specs.declared.Entry.{Entry}
-use Rattle.outage.specs.declared.Log.{Log}
 use Rattle.outage.specs.Log.{slots, zero_entry, log_entries, valid_log}
 use Rattle.outage.proofs.LogHolding.{valid_room}
 use Rattle.year.specs.declared.Line.{Line}
@@ -75,10 +74,6 @@ size_next row i h =
     ∙ ap (total caused_bytes) (take-suc row i zero_entry h)
     ∙ total_append caused_bytes (take i row) (get_or row i zero_entry ∷ [])
     ∙ omega arith
-
--- all of them
-pub size_all : (log : Log) (i : ℕ) → i ≡ log.count → total caused_bytes (take i log.entries) ≡ outages_size log
-size_all log i e = ap (λ (n : ℕ). total caused_bytes (take n log.entries)) e
 
 -- at most so many bytes
 pub size_most : (es : List Entry) → total caused_bytes es ≤ most_entry_bytes * length es

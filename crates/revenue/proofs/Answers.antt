@@ -1,4 +1,4 @@
--- What a good year, and one that is not, give. Assumes nothing.
+-- What a year that is not good, and one whose total is too large, give. Assumes nothing.
 use mathlib.Core.Path.{◌≡◌, refl}
 use mathlib.Core.Bool.{Bool, true, false, not, cond}
 use mathlib.Core.List.{[], ◌∷◌}
@@ -13,7 +13,7 @@ use Rattle.refusals.specs.Refusals.{Rows, accepted, first_applicable, refusal_nu
 use Rattle.refusals.proofs.Laws.{never_zero}
 use Rattle.year.specs.declared.Year.{Year}
 use Rattle.year.specs.Year.{good_year, check_year_rows}
-use Rattle.revenue.specs.declared.Revenue.TheVariants.{Pounds, Refused}
+use Rattle.revenue.specs.declared.Revenue.TheVariants.{Refused}
 use Rattle.revenue.specs.Revenue.{assessed_revenue, RevenueGives}
 
 -- the rows, by whether the year is good and the total within its limit
@@ -24,7 +24,7 @@ not_good : (good small : Bool) (z : ℤ) (n : ℕ) → n ≡ cond (not good) 9 0
 not_good true small z n e f = absurd (f e)
 not_good false small z n e f = (e, refl)
 
--- ---- the three answers
+-- ---- the refusals
 module _ (y : Year) where
   pub gives_bad : (why : Refusal) → refusal_number why ≡ first_applicable (check_year_rows y) → RevenueGives y (Refused why)
   gives_bad why e =
@@ -33,6 +33,3 @@ module _ (y : Year) where
 
   pub gives_large : good_year y ≡ true → leb (nat_abs (assessed_revenue y)) 1000000000 ≡ false → RevenueGives y (Refused TooLarge)
   gives_large g s = simp (g, s) (refl, refl)
-
-  pub gives_pounds : {z : ℤ} → z ≡ assessed_revenue y → good_year y ≡ true → leb (nat_abs (assessed_revenue y)) 1000000000 ≡ true → RevenueGives y (Pounds z)
-  gives_pounds e g s = simp (g, s) (refl, e)

@@ -5,11 +5,10 @@ use mathlib.Core.List.{List, [], ◌∷◌, ◌++◌}
 use Prim.Native.Nat.{ℕ, ◌+◌, ◌*◌, ◌≤◌, ◌<◌}
 use native.Mathlib.Omega.{arith}
 use native.Mathlib.Numerals.{add-one}
-use lib.IntN.{ℤ, pos, neg_ℤ, nat_abs, ◌+ℤ◌, +ℤ_idl, +ℤ_idr, +ℤ_assoc}
+use lib.IntN.{ℤ, pos, nat_abs, ◌+ℤ◌, +ℤ_idl, +ℤ_idr, +ℤ_assoc}
 use lib.ListN.{length, take, get_or}
 use lib.Seq.{take-suc, get_or-take, length-take-le}
 use lib.Signed.{lt_z}
-use borrow.Author.Tests.{lt-ltb, le-ltb, eq-eqb, ne_eqb}
 use Rattle.lists.proofs.Lists.{all_at}
 use Rattle.money.specs.Pounds.{saturated}
 use Rattle.money.proofs.Pounds.{abs_add, saturated_small}
@@ -26,32 +25,6 @@ amount_small lines count s len k h =
     let n : length (take count lines) ≡ count = length-take-le count lines (omega (arith, s.few)) in
     let g : good_line (get_or (take count lines) k zero_line) ≡ true = all_at good_line zero_line (take count lines) s.good k (omega arith) in
     (line_says (get_or lines k zero_line) (rw (get_or-take count lines k zero_line h) at g)).amount
-
--- ---- what a line counts, by its kind
-module _ (cmr : Bool) (kind : ℕ) (amount : ℤ) where
-  pub capacity_in : kind ≡ 2 → cmr ≡ true → amount ≡ counted_as cmr kind amount
-  unfolding counted_as
-  capacity_in k t = rw (eq-eqb kind 2 k, t)
-
-  pub capacity_out : kind ≡ 2 → cmr ≡ false → pos 0 ≡ counted_as cmr kind amount
-  unfolding counted_as
-  capacity_out k t = rw (eq-eqb kind 2 k, t)
-
-  pub other_out : (kind ≡ 2 → ⊥) → cmr ≡ true → pos 0 ≡ counted_as cmr kind amount
-  unfolding counted_as
-  other_out k t = rw (ne_eqb kind 2 k, t)
-
-  pub revenue_in : (kind ≡ 2 → ⊥) → cmr ≡ false → kind < 7 → amount ≡ counted_as cmr kind amount
-  unfolding counted_as
-  revenue_in k t h = rw (ne_eqb kind 2 k, t, lt-ltb kind 7 h)
-
-  pub additional_in : (kind ≡ 2 → ⊥) → cmr ≡ false → 7 ≤ kind → kind ≡ 10 → amount ≡ counted_as cmr kind amount
-  unfolding counted_as
-  additional_in k t h e = rw (ne_eqb kind 2 k, t, le-ltb kind 7 h, eq-eqb kind 10 e)
-
-  pub cost_in : (kind ≡ 2 → ⊥) → cmr ≡ false → 7 ≤ kind → (kind ≡ 10 → ⊥) → neg_ℤ amount ≡ counted_as cmr kind amount
-  unfolding counted_as
-  cost_in k t h e = rw (ne_eqb kind 2 k, t, le-ltb kind 7 h, ne_eqb kind 10 e)
 
 -- ---- sums
 module _ (cmr : Bool) (rate : ℕ) where

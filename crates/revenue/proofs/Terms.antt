@@ -103,9 +103,9 @@ one_line p =
     (simp nothing)
     (simp nothing)
     (simp nothing)
-    (let e : p ≡ p +ℤ pos 0 +ℤ pos 0 = simp nothing in simp nothing (ap neg_ℤ e))
-    (let e : p ≡ pos 0 +ℤ p +ℤ pos 0 = simp nothing in simp nothing (ap neg_ℤ e))
-    (let e : p ≡ pos 0 +ℤ pos 0 +ℤ p = simp nothing in simp nothing (ap neg_ℤ e))
+    (simp nothing)
+    (simp nothing)
+    (simp nothing)
     (simp nothing)
     (simp nothing)
 

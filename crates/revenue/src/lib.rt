@@ -22,6 +22,7 @@ impl Revenue {
 }
 
 // A line in pounds: a euro line is converted, and rounded by itself.
+#[tactic(auto, unfolding(crate::specs::Revenue::pounds_of))]
 fn pounds(l: Line, rate: u32) -> i64
     requires { (nat_abs l.amount ≤ 1000000000) × (rate ≤ 200000) }
     ensures { (result ≡ pounds_of rate l) × (nat_abs result ≤ 2000000000) }
@@ -35,6 +36,7 @@ fn pounds(l: Line, rate: u32) -> i64
 
 // What the pounds of a line count: in the sum of kind 2 where `cmr` holds, among the others where it does not. Kinds 7, 8,
 // 9 and 11 are subtracted.
+#[tactic(auto, unfolding(crate::specs::Revenue::counted_as))]
 fn counted(cmr: bool, kind: u8, amount: i64) -> i64
     requires { nat_abs amount ≤ 2000000000 }
     ensures { (result ≡ counted_as cmr kind amount) × (nat_abs result ≤ 2000000000) }
@@ -57,6 +59,7 @@ fn counted(cmr: bool, kind: u8, amount: i64) -> i64
     minus(0, amount)
 }
 
+#[tactic(auto, unfolding(crate::specs::Revenue::at_least_zero))]
 fn at_least_zero(z: i64) -> i64
     ensures { result ≡ at_least_zero z }
 {

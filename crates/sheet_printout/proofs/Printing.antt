@@ -5,7 +5,7 @@ use mathlib.Core.List.{List, [], ◌∷◌, ◌++◌}
 use mathlib.Core.Logic.{⊎_elim}
 use Prim.Native.Nat.{ℕ, zero, suc, ◌+◌, ◌-◌, ◌≤◌, ◌<◌, ◌/◌, ◌%◌, ◌^◌}
 use native.Mathlib.Omega.{arith}
-use borrow.Author.Tests.{lt-ltb, le-ltb, eq-eqb, ne_eqb}
+use borrow.Author.Tests.{le-ltb, eq-eqb, ne_eqb}
 use lib.Dec.{ltb, eqb}
 use lib.ListN.{length, length-append}
 use Rattle.lists.proofs.Tests.{le_or_lt}
@@ -75,15 +75,8 @@ module _ (t : Text) (cause : ℕ) where
 abbrev pub past_end : Entry → Bool
 past_end e = ltb last_regime_end e.start || ltb last_regime_end e.end
 
-module _ (e : Entry) where
-  pub start_past : last_regime_end < e.start → past_end e ≡ true
-  start_past h = rw (lt-ltb last_regime_end e.start h)
-
-  pub end_past : e.start ≤ last_regime_end → last_regime_end < e.end → past_end e ≡ true
-  end_past h k = rw (le-ltb last_regime_end e.start h, lt-ltb last_regime_end e.end k)
-
-  pub none_past : e.start ≤ last_regime_end → e.end ≤ last_regime_end → past_end e ≡ false
-  none_past h k = rw (le-ltb last_regime_end e.start h, le-ltb last_regime_end e.end k)
+pub none_past : (e : Entry) → e.start ≤ last_regime_end → e.end ≤ last_regime_end → past_end e ≡ false
+none_past e h k = rw (le-ltb last_regime_end e.start h, le-ltb last_regime_end e.end k)
 
 pushed_whole : (bs : List ℕ) → length bs ≤ room → pushed (text_of []) bs ≡ text_of bs
 pushed_whole bs h = pushed_text [] bs (omega arith)

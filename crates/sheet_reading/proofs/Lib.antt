@@ -1,6 +1,5 @@
 -- Laws on the reading of a day sheet, and that it has one answer.
 pub mod Found
-pub mod Follows
 pub mod Seen
 pub mod Carried
 pub mod Gives

@@ -112,11 +112,6 @@ pub signed_below : (z : ℤ) → lt_z z (pos 0) ≡ true → signed_decimal z �
 signed_below (pos n) e = absurd (omega (arith, ltb-true n 0 e))
 signed_below (negsuc n) e = refl
 
--- otherwise: the magnitude
-pub signed_plain : (z : ℤ) → lt_z z (pos 0) ≡ false → signed_decimal z ≡ decimal (nat_abs z)
-signed_plain (pos n) e = refl
-signed_plain (negsuc n) e = cc
-
 -- a magnitude below ten to the j gives at most j bytes, and the minus
 pub signed_few : (z : ℤ) (j : ℕ) → 1 ≤ j → nat_abs z < 10 ^ j → length (signed_decimal z) ≤ j + 1
 signed_few (pos n) j h w = omega (arith, digits_few 20 n j h w)

@@ -18,7 +18,7 @@ use Rattle.cells.specs.declared.Slot.{Slot}
 use Rattle.cells.specs.Cells.{empty_slot}
 use Rattle.workbook_cells.specs.declared.exporting.Exported.{Exported}
 use Rattle.workbook_cells.specs.declared.reading.CellsRead.{CellsRead}
-use Rattle.workbook_cells.specs.Workbook.{FirstFrom, bad_amount, exported, first_bad}
+use Rattle.workbook_cells.specs.Workbook.{first_from, bad_amount, exported, first_bad}
 use Rattle.workbook_cells.specs.Calls.{export_rows, not_exported, ExportGives, read_cells_rows, amounts_in, period_in, ReadCellsGives}
 use Rattle.workbook_cells.specs.Steps.{cells_refused}
 
@@ -28,8 +28,8 @@ module _ (amounts : List ℤ) (p : MedianPeriod) where
   abbrev rows_by : Bool → Bool → Bool → ℕ
   rows_by yearly period balances = cond yearly 9 (cond (not period) 12 (cond balances 11 0))
 
-  rows_are : (yearly period balances : Bool) → ltb (FirstFrom (bad_amount amounts) 20 0) 20 ≡ yearly → good_medians p ≡ period
-      → ltb (FirstFrom (bad_amount amounts) 5 20) 25 ≡ balances → first_applicable (export_rows amounts p) ≡ rows_by yearly period balances
+  rows_are : (yearly period balances : Bool) → ltb (first_from (bad_amount amounts) 20 0) 20 ≡ yearly → good_medians p ≡ period
+      → ltb (first_from (bad_amount amounts) 5 20) 25 ≡ balances → first_applicable (export_rows amounts p) ≡ rows_by yearly period balances
   rows_are yearly period balances e f g = rw (e, f, g) refl
 
   pub not_exported_law : (r : Exported) (why : Refusal) → r ≡ not_exported why → first_applicable (export_rows amounts p) ≡ refusal_number why → ExportGives amounts p r
@@ -39,17 +39,17 @@ module _ (amounts : List ℤ) (p : MedianPeriod) where
         ∙ sym (ap (λ (b : Bool). cond b (exported amounts p) (replicate 28 empty_slot)) (refused_not (Refused why) (export_rows amounts p) why (sym n) refl)),
   )
 
-  pub bad_year : ltb (FirstFrom (bad_amount amounts) 20 0) 20 ≡ true → first_applicable (export_rows amounts p) ≡ 9
-  bad_year e = rows_are true (good_medians p) (ltb (FirstFrom (bad_amount amounts) 5 20) 25) e refl refl
+  pub bad_year : ltb (first_from (bad_amount amounts) 20 0) 20 ≡ true → first_applicable (export_rows amounts p) ≡ 9
+  bad_year e = rows_are true (good_medians p) (ltb (first_from (bad_amount amounts) 5 20) 25) e refl refl
 
-  pub bad_period : ltb (FirstFrom (bad_amount amounts) 20 0) 20 ≡ false → good_medians p ≡ false → first_applicable (export_rows amounts p) ≡ 12
-  bad_period e f = rows_are false false (ltb (FirstFrom (bad_amount amounts) 5 20) 25) e f refl
+  pub bad_period : ltb (first_from (bad_amount amounts) 20 0) 20 ≡ false → good_medians p ≡ false → first_applicable (export_rows amounts p) ≡ 12
+  bad_period e f = rows_are false false (ltb (first_from (bad_amount amounts) 5 20) 25) e f refl
 
-  pub bad_balance : ltb (FirstFrom (bad_amount amounts) 20 0) 20 ≡ false → good_medians p ≡ true → ltb (FirstFrom (bad_amount amounts) 5 20) 25 ≡ true
+  pub bad_balance : ltb (first_from (bad_amount amounts) 20 0) 20 ≡ false → good_medians p ≡ true → ltb (first_from (bad_amount amounts) 5 20) 25 ≡ true
       → first_applicable (export_rows amounts p) ≡ 11
   bad_balance e f g = rows_are false true true e f g
 
-  pub clear : ltb (FirstFrom (bad_amount amounts) 20 0) 20 ≡ false → good_medians p ≡ true → ltb (FirstFrom (bad_amount amounts) 5 20) 25 ≡ false
+  pub clear : ltb (first_from (bad_amount amounts) 20 0) 20 ≡ false → good_medians p ≡ true → ltb (first_from (bad_amount amounts) 5 20) 25 ≡ false
       → first_applicable (export_rows amounts p) ≡ 0
   clear e f g = rows_are false true false e f g
 

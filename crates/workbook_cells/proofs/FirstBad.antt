@@ -19,7 +19,7 @@ use Rattle.cells.specs.declared.Cell.{Cell}
 use Rattle.cells.specs.declared.Cell.TheVariants.{Empty, Number, Day}
 use Rattle.cells.specs.declared.Slot.{Slot}
 use Rattle.cells.specs.Cells.{day_in, twice_in, day_float, is_none}
-use Rattle.workbook_cells.specs.Workbook.{FirstFrom, last_fits, cell_at, bad_cell, first_bad}
+use Rattle.workbook_cells.specs.Workbook.{first_from, last_fits, cell_at, bad_cell, first_bad}
 use Rattle.workbook_cells.specs.Calls.{period_in}
 use Rattle.workbook_cells.specs.Steps.{bad_number}
 use Rattle.workbook_cells.proofs.Tables.{first_split, first_same}
@@ -48,23 +48,23 @@ module _ (slots : List Slot) where
   pub number_cell : (i : ℕ) → i < 25 → bad_cell slots i ≡ bad_number slots i
   number_cell i h = rw (lt-ltb i 25 h) refl
 
-  same_numbers : FirstFrom (bad_cell slots) 25 0 ≡ FirstFrom (bad_number slots) 25 0
+  same_numbers : first_from (bad_cell slots) 25 0 ≡ first_from (bad_number slots) 25 0
   same_numbers = first_same (bad_cell slots) (bad_number slots) 25 0 (λ i l h. number_cell i h)
 
-  split : first_bad slots ≡ cond (ltb (FirstFrom (bad_number slots) 25 0) 25) (FirstFrom (bad_number slots) 25 0) (FirstFrom (bad_cell slots) 3 25)
+  split : first_bad slots ≡ cond (ltb (first_from (bad_number slots) 25 0) 25) (first_from (bad_number slots) 25 0) (first_from (bad_cell slots) 3 25)
   split =
       first_split (bad_cell slots) 25 3 0
-      ∙ ap (λ (k : ℕ). cond (ltb k 25) k (FirstFrom (bad_cell slots) 3 25)) same_numbers
+      ∙ ap (λ (k : ℕ). cond (ltb k 25) k (first_from (bad_cell slots) 3 25)) same_numbers
 
-  pub bad_number_law : (k : ℕ) → k ≡ FirstFrom (bad_number slots) 25 0 → k < 25 → first_bad slots ≡ k
+  pub bad_number_law : (k : ℕ) → k ≡ first_from (bad_number slots) 25 0 → k < 25 → first_bad slots ≡ k
   bad_number_law k e h =
       split
-      ∙ ap (λ (j : ℕ). cond (ltb j 25) j (FirstFrom (bad_cell slots) 3 25)) (sym e)
-      ∙ ap (λ (b : Bool). cond b k (FirstFrom (bad_cell slots) 3 25)) (lt-ltb k 25 h)
+      ∙ ap (λ (j : ℕ). cond (ltb j 25) j (first_from (bad_cell slots) 3 25)) (sym e)
+      ∙ ap (λ (b : Bool). cond b k (first_from (bad_cell slots) 3 25)) (lt-ltb k 25 h)
 
-  module _ (numbers : FirstFrom (bad_number slots) 25 0 ≡ 25) where
-    to_days : first_bad slots ≡ FirstFrom (bad_cell slots) 3 25
-    to_days = split ∙ ap (λ (j : ℕ). cond (ltb j 25) j (FirstFrom (bad_cell slots) 3 25)) numbers
+  module _ (numbers : first_from (bad_number slots) 25 0 ≡ 25) where
+    to_days : first_bad slots ≡ first_from (bad_cell slots) 3 25
+    to_days = split ∙ ap (λ (j : ℕ). cond (ltb j 25) j (first_from (bad_cell slots) 3 25)) numbers
 
     abbrev first : Option ℕ
     first = day_in (cell_at slots 25)
@@ -76,7 +76,7 @@ module _ (slots : List Slot) where
     twice = twice_in (cell_at slots 27)
 
     by_days : first_bad slots ≡ cond (is_none first) 25 (cond (not (last_fits first last)) 26 (cond (not (days_agree first last twice)) 27 28))
-    unfolding FirstFrom
+    unfolding first_from
     by_days = to_days
 
     -- the tests, as the code has them

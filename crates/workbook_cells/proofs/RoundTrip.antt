@@ -28,7 +28,7 @@ use Rattle.cells.specs.Cells.{is_within, is_level, most_at, is_zero, good_amount
 use Rattle.cells.proofs.Laws.{at_most}
 use Rattle.workbook_cells.specs.declared.exporting.Exported.{Exported}
 use Rattle.workbook_cells.specs.declared.reading.CellsRead.{CellsRead}
-use Rattle.workbook_cells.specs.Workbook.{tabulated, FirstFrom, amount_at, bad_amount, day_slots, exported, last_fits, cell_at, bad_cell, first_bad}
+use Rattle.workbook_cells.specs.Workbook.{tabulated, first_from, amount_at, bad_amount, day_slots, exported, last_fits, cell_at, bad_cell, first_bad}
 use Rattle.workbook_cells.specs.Calls.{export_rows, ExportGives, read_cells_rows, pounds_or, amounts_in, period_in, ReadCellsGives}
 use Rattle.workbook_cells.specs.Theorems.{CellFits, CellsFit, came_out, came_out_all, ReadsBack, ComesOut}
 use Rattle.workbook_cells.proofs.Answers.{clear}
@@ -86,14 +86,14 @@ days_there (some a) (some b) (some k) e = (refl, and_left (leb a b) (eqb k (a + 
 module _ (slots : List Slot) where
   none_bad_of : ((i : ℕ) → i < 25 → is_none (amount_in i (cell_at slots i)) ≡ false)
       → days_agree (day_in (cell_at slots 25)) (day_in (cell_at slots 26)) (twice_in (cell_at slots 27)) ≡ true → first_bad slots ≡ 28
-  unfolding FirstFrom
+  unfolding first_from
   none_bad_of numbers agree =
       let first = day_in (cell_at slots 25) in
       let last = day_in (cell_at slots 26) in
       let twice = twice_in (cell_at slots 27) in
       let there = days_there first last twice agree in
       first_split (bad_cell slots) 25 3 0
-      ∙ ap (λ (k : ℕ). cond (ltb k 25) k (FirstFrom (bad_cell slots) 3 25))
+      ∙ ap (λ (k : ℕ). cond (ltb k 25) k (first_from (bad_cell slots) 3 25))
       (none_first (bad_cell slots) 25 0 (λ i l h. number_cell slots i h ∙ numbers i h))
       ∙ ap (λ (b : Bool). cond b 25 (cond (not (last_fits first last)) 26 (cond (not (days_agree first last twice)) 27 28))) there.0
       ∙ ap (λ (b : Bool). cond {A = ℕ} (not b) 26 (cond (not (days_agree first last twice)) 27 28)) there.1
@@ -104,11 +104,11 @@ module _ (amounts : List ℤ) (p : MedianPeriod) (clear : first_applicable (expo
   rows_clear : AllClear (export_rows amounts p)
   rows_clear = all_clear (export_rows amounts p) clear
 
-  yearly_good : FirstFrom (bad_amount amounts) 20 0 ≡ 20
-  yearly_good = omega (arith, first_most (bad_amount amounts) 20 0, ltb-false (FirstFrom (bad_amount amounts) 20 0) 20 rows_clear.0)
+  yearly_good : first_from (bad_amount amounts) 20 0 ≡ 20
+  yearly_good = omega (arith, first_most (bad_amount amounts) 20 0, ltb-false (first_from (bad_amount amounts) 20 0) 20 rows_clear.0)
 
-  later_good : FirstFrom (bad_amount amounts) 5 20 ≡ 25
-  later_good = omega (arith, first_most (bad_amount amounts) 5 20, ltb-false (FirstFrom (bad_amount amounts) 5 20) 25 rows_clear.1.1.0)
+  later_good : first_from (bad_amount amounts) 5 20 ≡ 25
+  later_good = omega (arith, first_most (bad_amount amounts) 5 20, ltb-false (first_from (bad_amount amounts) 5 20) 25 rows_clear.1.1.0)
 
   good_at : (i : ℕ) → i < 25 → good_amount i (amount_at amounts i) ≡ true
   good_at i h = not_no (good_amount i (amount_at amounts i)) (by (le_or_lt 20 i))

@@ -14,7 +14,7 @@ use lib.Seq.{get_or_at, append_snoc, take-suc}
 use Rattle.lists.specs.Lists.{padded}
 use Rattle.lists.proofs.Tests.{le_or_lt}
 use Rattle.lists.proofs.Padded.{padded_more}
-use Rattle.workbook_cells.specs.Workbook.{tabulated, FirstFrom}
+use Rattle.workbook_cells.specs.Workbook.{tabulated, first_from}
 
 -- ---- f of 0 to before n
 module _ {A : Type 0} (f : ℕ → A) where
@@ -75,91 +75,91 @@ module _ {A : Type 0} (n : ℕ) (e : A) where
 
 -- ---- the first index that a test holds at
 module _ (bad : ℕ → Bool) where
-  pub first_here : (n at : ℕ) → bad at ≡ true → FirstFrom bad (suc n) at ≡ at
-  unfolding FirstFrom
-  first_here n at e = ap (λ (b : Bool). cond b at (FirstFrom bad n (suc at))) e
+  pub first_here : (n at : ℕ) → bad at ≡ true → first_from bad (suc n) at ≡ at
+  unfolding first_from
+  first_here n at e = ap (λ (b : Bool). cond b at (first_from bad n (suc at))) e
 
-  pub first_on : (n at : ℕ) → bad at ≡ false → FirstFrom bad (suc n) at ≡ FirstFrom bad n (suc at)
-  unfolding FirstFrom
-  first_on n at e = ap (λ (b : Bool). cond b at (FirstFrom bad n (suc at))) e
+  pub first_on : (n at : ℕ) → bad at ≡ false → first_from bad (suc n) at ≡ first_from bad n (suc at)
+  unfolding first_from
+  first_on n at e = ap (λ (b : Bool). cond b at (first_from bad n (suc at))) e
 
   -- from one index to before another, as a loop goes
-  pub stops : (to i : ℕ) → i < to → bad i ≡ true → FirstFrom bad (to - i) i ≡ i
-  stops to i h e = let n : to - i ≡ suc (to - (i + 1)) = omega arith in ap (λ (k : ℕ). FirstFrom bad k i) n ∙ first_here (to - (i + 1)) i e
+  pub stops : (to i : ℕ) → i < to → bad i ≡ true → first_from bad (to - i) i ≡ i
+  stops to i h e = let n : to - i ≡ suc (to - (i + 1)) = omega arith in ap (λ (k : ℕ). first_from bad k i) n ∙ first_here (to - (i + 1)) i e
 
-  pub goes_on : (to i : ℕ) → i < to → bad i ≡ false → FirstFrom bad (to - (i + 1)) (i + 1) ≡ FirstFrom bad (to - i) i
+  pub goes_on : (to i : ℕ) → i < to → bad i ≡ false → first_from bad (to - (i + 1)) (i + 1) ≡ first_from bad (to - i) i
   goes_on to i h e =
       let n : to - i ≡ suc (to - (i + 1)) = omega arith in
-      ap (FirstFrom bad (to - (i + 1))) (add-one i) ∙ sym (ap (λ (k : ℕ). FirstFrom bad k i) n ∙ first_on (to - (i + 1)) i e)
+      ap (first_from bad (to - (i + 1))) (add-one i) ∙ sym (ap (λ (k : ℕ). first_from bad k i) n ∙ first_on (to - (i + 1)) i e)
 
-  pub ends : (to i : ℕ) → i ≤ to → to ≤ i → FirstFrom bad (to - i) i ≡ to
-  unfolding FirstFrom
-  ends to i h l = let n : to - i ≡ 0 = omega arith in let e : i ≡ to = omega arith in ap (λ (k : ℕ). FirstFrom bad k i) n ∙ e
+  pub ends : (to i : ℕ) → i ≤ to → to ≤ i → first_from bad (to - i) i ≡ to
+  unfolding first_from
+  ends to i h l = let n : to - i ≡ 0 = omega arith in let e : i ≡ to = omega arith in ap (λ (k : ℕ). first_from bad k i) n ∙ e
 
   -- where it lies at most
-  pub first_most : (n at : ℕ) → FirstFrom bad n at ≤ at + n
-  unfolding FirstFrom
+  pub first_most : (n at : ℕ) → first_from bad n at ≤ at + n
+  unfolding first_from
   first_most zero at = omega arith
   first_most (suc n) at = by (bad at) (first_most n (suc at))
     where
-      by : (b : Bool) → FirstFrom bad n (suc at) ≤ suc at + n → cond b at (FirstFrom bad n (suc at)) ≤ at + suc n
+      by : (b : Bool) → first_from bad n (suc at) ≤ suc at + n → cond b at (first_from bad n (suc at)) ≤ at + suc n
       by true h = omega arith
       by false h = omega arith
 
   -- n indices and then m more
-  pub first_split : (n m at : ℕ) → FirstFrom bad (n + m) at ≡ cond (ltb (FirstFrom bad n at) (at + n)) (FirstFrom bad n at) (FirstFrom bad m (at + n))
-  unfolding FirstFrom
+  pub first_split : (n m at : ℕ) → first_from bad (n + m) at ≡ cond (ltb (first_from bad n at) (at + n)) (first_from bad n at) (first_from bad m (at + n))
+  unfolding first_from
   first_split zero m at =
-      ap (λ (k : ℕ). FirstFrom bad k at) (zero-add m)
-      ∙ ap (FirstFrom bad m) (sym (add-zero at))
-      ∙ sym (ap (λ (b : Bool). cond b at (FirstFrom bad m (at + 0))) (le-ltb at (at + 0) (omega arith)))
-  first_split (suc n) m at = ap (λ (k : ℕ). FirstFrom bad k at) (suc-add n m) ∙ by (bad at) (first_split n m (suc at))
+      ap (λ (k : ℕ). first_from bad k at) (zero-add m)
+      ∙ ap (first_from bad m) (sym (add-zero at))
+      ∙ sym (ap (λ (b : Bool). cond b at (first_from bad m (at + 0))) (le-ltb at (at + 0) (omega arith)))
+  first_split (suc n) m at = ap (λ (k : ℕ). first_from bad k at) (suc-add n m) ∙ by (bad at) (first_split n m (suc at))
     where
-      by : (b : Bool) → FirstFrom bad (n + m) (suc at) ≡ cond (ltb (FirstFrom bad n (suc at)) (suc at + n)) (FirstFrom bad n (suc at)) (FirstFrom bad m (suc at + n))
-          → cond b at (FirstFrom bad (n + m) (suc at))
-          ≡ cond (ltb (cond b at (FirstFrom bad n (suc at))) (at + suc n)) (cond b at (FirstFrom bad n (suc at))) (FirstFrom bad m (at + suc n))
-      by true h = sym (ap (λ (t : Bool). cond t at (FirstFrom bad m (at + suc n))) (lt-ltb at (at + suc n) (omega arith)))
+      by : (b : Bool) → first_from bad (n + m) (suc at) ≡ cond (ltb (first_from bad n (suc at)) (suc at + n)) (first_from bad n (suc at)) (first_from bad m (suc at + n))
+          → cond b at (first_from bad (n + m) (suc at))
+          ≡ cond (ltb (cond b at (first_from bad n (suc at))) (at + suc n)) (cond b at (first_from bad n (suc at))) (first_from bad m (at + suc n))
+      by true h = sym (ap (λ (t : Bool). cond t at (first_from bad m (at + suc n))) (lt-ltb at (at + suc n) (omega arith)))
       by false h =
           h
-          ∙ ap (λ (k : ℕ). cond (ltb (FirstFrom bad n (suc at)) k) (FirstFrom bad n (suc at)) (FirstFrom bad m k)) (sym (add-suc at n ∙ sym (suc-add at n)))
+          ∙ ap (λ (k : ℕ). cond (ltb (first_from bad n (suc at)) k) (first_from bad n (suc at)) (first_from bad m k)) (sym (add-suc at n ∙ sym (suc-add at n)))
 
   -- none of the first n: the test holds at none of them
-  pub first_none : (n at : ℕ) → FirstFrom bad n at ≡ at + n → (i : ℕ) → at ≤ i → i < at + n → bad i ≡ false
-  unfolding FirstFrom
+  pub first_none : (n at : ℕ) → first_from bad n at ≡ at + n → (i : ℕ) → at ≤ i → i < at + n → bad i ≡ false
+  unfolding first_from
   first_none zero at e i l h = absurd (not-suc-le-zero {n = 0} (omega arith))
   first_none (suc n) at e i l h = by (bad at) refl e (le_or_lt (suc at) i) (λ e g k. first_none n (suc at) e i g k)
     where
-      by : (b : Bool) → bad at ≡ b → cond b at (FirstFrom bad n (suc at)) ≡ at + suc n → (suc at ≤ i) ⊎ (i < suc at)
-          → (FirstFrom bad n (suc at) ≡ suc at + n → suc at ≤ i → i < suc at + n → bad i ≡ false) → bad i ≡ false
+      by : (b : Bool) → bad at ≡ b → cond b at (first_from bad n (suc at)) ≡ at + suc n → (suc at ≤ i) ⊎ (i < suc at)
+          → (first_from bad n (suc at) ≡ suc at + n → suc at ≤ i → i < suc at + n → bad i ≡ false) → bad i ≡ false
       by true t e side later = absurd (not-suc-le-zero {n = 0} (omega arith))
       by false t e (inl g) later = later (omega arith) g (omega arith)
       by false t e (inr g) later = let same : i ≡ at = omega arith in ap bad same ∙ t
 
-  pub none_first : (n at : ℕ) → ((i : ℕ) → at ≤ i → i < at + n → bad i ≡ false) → FirstFrom bad n at ≡ at + n
-  unfolding FirstFrom
+  pub none_first : (n at : ℕ) → ((i : ℕ) → at ≤ i → i < at + n → bad i ≡ false) → first_from bad n at ≡ at + n
+  unfolding first_from
   none_first zero at h = sym (add-zero at)
   none_first (suc n) at h =
-      ap (λ (b : Bool). cond b at (FirstFrom bad n (suc at))) (h at (le_refl at) (omega arith))
+      ap (λ (b : Bool). cond b at (first_from bad n (suc at))) (h at (le_refl at) (omega arith))
       ∙ none_first n (suc at) (λ i l g. h i (omega arith) (omega arith))
       ∙ omega arith
 
   -- where it holds at one of them, there is a first: it holds there, and at none before
-  pub first_below : (n at i : ℕ) → at ≤ i → i < at + n → bad i ≡ true → FirstFrom bad n at < at + n
-  first_below n at i l h e = by (le_or_lt (at + n) (FirstFrom bad n at))
+  pub first_below : (n at i : ℕ) → at ≤ i → i < at + n → bad i ≡ true → first_from bad n at < at + n
+  first_below n at i l h e = by (le_or_lt (at + n) (first_from bad n at))
     where
-      by : (at + n ≤ FirstFrom bad n at) ⊎ (FirstFrom bad n at < at + n) → FirstFrom bad n at < at + n
+      by : (at + n ≤ first_from bad n at) ⊎ (first_from bad n at < at + n) → first_from bad n at < at + n
       by (inr g) = g
       by (inl g) = absurd (true≢false (sym e ∙ first_none n at (omega (arith, first_most n at)) i l h))
 
-  pub first_found : (n at : ℕ) → FirstFrom bad n at < at + n
-      → (bad (FirstFrom bad n at) ≡ true) × ((j : ℕ) → at ≤ j → j < FirstFrom bad n at → bad j ≡ false)
-  unfolding FirstFrom
+  pub first_found : (n at : ℕ) → first_from bad n at < at + n
+      → (bad (first_from bad n at) ≡ true) × ((j : ℕ) → at ≤ j → j < first_from bad n at → bad j ≡ false)
+  unfolding first_from
   first_found zero at h = absurd (not-suc-le-zero {n = 0} (omega arith))
   first_found (suc n) at h = by (bad at) refl h (first_found n (suc at))
     where
-      by : (b : Bool) → bad at ≡ b → cond b at (FirstFrom bad n (suc at)) < at + suc n
-          → (FirstFrom bad n (suc at) < suc at + n → (bad (FirstFrom bad n (suc at)) ≡ true) × ((j : ℕ) → suc at ≤ j → j < FirstFrom bad n (suc at) → bad j ≡ false))
-          → (bad (cond b at (FirstFrom bad n (suc at))) ≡ true) × ((j : ℕ) → at ≤ j → j < cond b at (FirstFrom bad n (suc at)) → bad j ≡ false)
+      by : (b : Bool) → bad at ≡ b → cond b at (first_from bad n (suc at)) < at + suc n
+          → (first_from bad n (suc at) < suc at + n → (bad (first_from bad n (suc at)) ≡ true) × ((j : ℕ) → suc at ≤ j → j < first_from bad n (suc at) → bad j ≡ false))
+          → (bad (cond b at (first_from bad n (suc at))) ≡ true) × ((j : ℕ) → at ≤ j → j < cond b at (first_from bad n (suc at)) → bad j ≡ false)
       by true e h later = (e, λ j l g. absurd (not-suc-le-zero {n = 0} (omega arith)))
       by false e h later =
           let f = later (omega arith) in (
@@ -172,9 +172,9 @@ module _ (bad : ℕ → Bool) where
           before j l (inr m) past = let same : j ≡ at = omega arith in ap bad same ∙ e
 
 -- two tests that agree have one first index
-pub first_same : (bad other : ℕ → Bool) (n at : ℕ) → ((i : ℕ) → at ≤ i → i < at + n → bad i ≡ other i) → FirstFrom bad n at ≡ FirstFrom other n at
-unfolding FirstFrom
+pub first_same : (bad other : ℕ → Bool) (n at : ℕ) → ((i : ℕ) → at ≤ i → i < at + n → bad i ≡ other i) → first_from bad n at ≡ first_from other n at
+unfolding first_from
 first_same bad other zero at h = refl
 first_same bad other (suc n) at h =
-    ap (λ (b : Bool). cond b at (FirstFrom bad n (suc at))) (h at (le_refl at) (omega arith))
+    ap (λ (b : Bool). cond b at (first_from bad n (suc at))) (h at (le_refl at) (omega arith))
     ∙ ap (λ (k : ℕ). cond (other at) at k) (first_same bad other n (suc at) (λ i l g. h i (omega arith) (omega arith)))

@@ -11,14 +11,14 @@ use Rattle.cells.specs.declared.Slot.{Slot}
 use Rattle.workbook_cells.specs.declared.exporting.Exported.{Exported}
 use Rattle.workbook_cells.specs.declared.reading.CellsRead.{CellsRead}
 use Rattle.cells.specs.Cells.{empty_slot, amount_in, day_float}
-use Rattle.workbook_cells.specs.Workbook.{tabulated, FirstFrom, bad_amount, exported, cell_at, first_bad}
+use Rattle.workbook_cells.specs.Workbook.{tabulated, first_from, bad_amount, exported, cell_at, first_bad}
 
 -- ---- a period is exported
 abbrev pub export_rows : List ℤ → MedianPeriod → Rows
 export_rows amounts p =
-    (BadYear, ltb (FirstFrom (bad_amount amounts) 20 0) 20)
+    (BadYear, ltb (first_from (bad_amount amounts) 20 0) 20)
     ∷ (BadPeriod, not (good_medians p))
-    ∷ (TooLarge, ltb (FirstFrom (bad_amount amounts) 5 20) 25)
+    ∷ (TooLarge, ltb (first_from (bad_amount amounts) 5 20) 25)
     ∷ []
 
 -- rule 12.3: beside a refusal every cell is empty

@@ -8,7 +8,7 @@ use Rattle.cells.specs.declared.Cell.TheVariants.{Day}
 use Rattle.cells.specs.declared.Slot.{Slot}
 use Rattle.workbook_cells.specs.declared.reading.CellsRead.{CellsRead}
 use Rattle.cells.specs.Cells.{slot_of, cell_of, empty_slot, amount_in, is_none}
-use Rattle.workbook_cells.specs.Workbook.{tabulated, FirstFrom, amount_at, cell_at}
+use Rattle.workbook_cells.specs.Workbook.{tabulated, first_from, amount_at, cell_at}
 use Rattle.workbook_cells.specs.Calls.{amounts_in}
 
 -- ---- a refusal as a call gives it
@@ -27,4 +27,4 @@ abbrev pub bad_number : List Slot → ℕ → Bool
 bad_number slots i = is_none (amount_in i (cell_at slots i))
 
 abbrev pub amounts_read : List Slot → List ℤ
-amounts_read slots = cond (eqb (FirstFrom (bad_number slots) 25 0) 25) (amounts_in slots) (replicate 25 (pos 0))
+amounts_read slots = cond (eqb (first_from (bad_number slots) 25 0) 25) (amounts_in slots) (replicate 25 (pos 0))

@@ -15,9 +15,9 @@ tabulated f zero = []
 tabulated f (suc n) = tabulated f n ++ (f n ∷ [])
 
 -- the first of n indices, from one on, that a test holds at; the one behind them where it holds at none
-unfoldable pub FirstFrom : (ℕ → Bool) → ℕ → ℕ → ℕ
-FirstFrom bad zero at = at
-FirstFrom bad (suc n) at = cond (bad at) at (FirstFrom bad n (suc at))
+unfoldable pub first_from : (ℕ → Bool) → ℕ → ℕ → ℕ
+first_from bad zero at = at
+first_from bad (suc n) at = cond (bad at) at (first_from bad n (suc at))
 
 -- ---- rule 19.5: the amount at an index of a list of them, and the cells of all
 abbrev pub amount_at : List ℤ → ℕ → ℤ
@@ -51,4 +51,4 @@ bad_cell slots i =
 
 -- the first bad one, 28 where there is none
 abbrev pub first_bad : List Slot → ℕ
-first_bad slots = FirstFrom (bad_cell slots) 28 0
+first_bad slots = first_from (bad_cell slots) 28 0

@@ -1,7 +1,7 @@
 // A period's amounts and days as cells: rule 19.5.
 ghost use Rattle.std.specs.Prelude.{◌≡◌, replicate, ◌-◌, ◌≤◌};
 ghost use Rattle.cells.specs.Cells.{empty_slot};
-ghost use Rattle.workbook_cells.specs.Workbook.{bad_amount, exported, FirstFrom};
+ghost use Rattle.workbook_cells.specs.Workbook.{bad_amount, exported, first_from};
 ghost use Rattle.workbook_cells.specs.Calls.{ExportGives, not_exported};
 ghost use Rattle.workbook_cells.specs.Steps.{amount_slots, day_slot};
 
@@ -31,7 +31,7 @@ impl Exported {
 // The first index from one to before another whose amount is out of range, or that other.
 fn first_bad(amounts: [i64; Slot::AMOUNTS], from: usize, to: usize) -> usize
     requires { (from ≤ to) × (to ≤ 25) }
-    ensures { result ≡ FirstFrom (bad_amount amounts) (to - from) from }
+    ensures { result ≡ first_from (bad_amount amounts) (to - from) from }
 {
     let mut i = from;
     while i < to {

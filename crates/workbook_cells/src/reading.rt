@@ -1,7 +1,7 @@
 // Amounts and a period from 28 cells, or the first bad one: rule 19.6.
 ghost use Rattle.std.specs.Prelude.{◌≡◌};
 ghost use Rattle.cells.specs.Cells.{day_float};
-ghost use Rattle.workbook_cells.specs.Workbook.{FirstFrom};
+ghost use Rattle.workbook_cells.specs.Workbook.{first_from};
 ghost use Rattle.workbook_cells.specs.Calls.{ReadCellsGives, period_in};
 ghost use Rattle.workbook_cells.specs.Steps.{amounts_read, bad_number, cells_refused};
 
@@ -39,7 +39,7 @@ fn refused(index: usize) -> CellsRead
 
 // The amounts of the first 25 cells.
 fn read_amounts(slots: [Slot; Slot::CELLS]) -> AmountsRead
-    ensures { (result.bad ≡ FirstFrom (bad_number slots) 25 0) × (result.amounts ≡ amounts_read slots) }
+    ensures { (result.bad ≡ first_from (bad_number slots) 25 0) × (result.amounts ≡ amounts_read slots) }
 {
     let mut amounts: [i64; Slot::AMOUNTS] = [0; Slot::AMOUNTS];
     let mut i: usize = 0;

@@ -13,7 +13,7 @@ use lib.ListN.{length, drop, length-drop}
 use lib.Seq.{length-take-le}
 use Rattle.lists.specs.Lists.{all}
 use Rattle.lists.proofs.Tests.{and_left, and_right, and_made, le_or_lt}
-use Rattle.refusals.specs.Refusals.{accepted, first_applicable}
+use Rattle.refusals.specs.Refusals.{first_applicable}
 use Rattle.year.specs.declared.Year.{Year}
 use Rattle.balances.specs.Balance.{period_years}
 use Rattle.assessment.specs.Period.{one_period}

@@ -1,0 +1,35 @@
+-- Too wide a number has no field; one without room leaves the buffer, and one with room is its head and then its bytes.
+use Rattle.std.proofs.Common.{◌≡◌, ℕ, ◌+◌, ◌++◌, length, sym, length-append, arith}
+use Rattle.codec.specs.Numbers.{bytes_of}
+use Rattle.codec.specs.Fields.{head}
+use Rattle.codec.proofs.Numbers.{bytes_length}
+use Rattle.codec.proofs.Items.{length_head}
+use Rattle.codec.proofs.Buffers.{laid_empty, written, unwritten}
+use Rattle.codec.proofs.Leaves.{field_bytes_there, field_bytes_wide}
+use Rattle.codec.proofs.Putting.{run_then, number_last}
+use Rattle.codec.proofs.laying.put_number.Goals as goal
+
+-- how long the field is
+size : (tag n v : ℕ) → length (head tag n ++ bytes_of n v) ≡ 3 + n
+size tag n v = rw (length-append (head tag n) (bytes_of n v), length_head tag n, bytes_length n v)
+
+pub returns-then-width-gt-WIDEST : goal.returns-then-width-gt-WIDEST
+returns-then-width-gt-WIDEST c =
+    let a = c.args in
+    let e = laid_empty a.out.now a.at in
+    rw (field_bytes_wide a.tag a.n a.v c.if-width-gt-WIDEST.true) (sym e.0, sym e.1)
+
+pub returns-then-out-at : goal.returns-then-out-at
+returns-then-out-at c = unwritten _ _ _ (omega arith)
+
+pub returns-then-out-at-2 : goal.returns-then-out-at-2
+returns-then-out-at-2 c =
+    let a = c.args in
+    rw (field_bytes_there a.tag a.n a.v (omega arith)) (unwritten _ _ _ (omega (arith, size a.tag a.n a.v)))
+
+pub returns : goal.returns
+returns c =
+    let a = c.args in
+    let z = size a.tag a.n a.v in
+    rw (field_bytes_there a.tag a.n a.v (omega arith))
+    (written (omega arith) (run_then (head a.tag a.n) (omega arith) c.put_head-p.ensures (λ r. number_last a.n a.v (omega arith) r c.put.ensures)))

@@ -1,2 +1,0 @@
--- Laws of the factors that a return leaves out.
-pub mod Factored
