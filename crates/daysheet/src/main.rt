@@ -5,18 +5,18 @@
 mod input;
 
 use input::read_whole;
-use libc::{STDIN_FILENO, STDOUT_FILENO};
 use return_format::Return;
 use return_printout::print_return;
+use std::io;
 
 // One byte more than a return may have is enough to refuse it.
 const BYTES: usize = Return::MOST_BYTES + 1;
 
-fn main() {
+fn main(rt: HostRuntime) -> io::Result<()> {
     let mut space = [0u8; BYTES];
-    let n = read_whole(STDIN_FILENO, &mut space);
+    let n = read_whole(&mut rt.stdin(), &mut space);
     let printed = print_return(&space[..n]);
     let text = printed.bytes;
     let length = printed.length;
-    io::write_all(STDOUT_FILENO, &text[..length]);
+    rt.write_all(&text[..length])
 }

@@ -5,6 +5,7 @@
 mod say;
 
 use outage::{Entry, Log};
+use std::io;
 
 // Minutes are counted from 00:00 on 31 January 2019; this is the midnight after.
 const MIDNIGHT: u32 = 1_440;
@@ -13,7 +14,7 @@ const MIDNIGHT: u32 = 1_440;
 const END: u32 = Log::LAST_REGIME_END;
 
 // Enters an outage. Done or refused, the log that comes back is the one to go on with.
-fn enter(log: Log, start: u32, end: u32, mw: u16, cause: u8) -> Log {
+fn enter(rt: &impl Print, log: Log, start: u32, end: u32, mw: u16, cause: u8) -> io::Result<Log> {
     let e = Entry {
         start,
         end,
@@ -22,21 +23,29 @@ fn enter(log: Log, start: u32, end: u32, mw: u16, cause: u8) -> Log {
     };
     let entered = outage::enter(log, e);
     let answer = entered.answer;
-    say::entered(e, answer);
-    entered.log
+    say::entered(rt, e, answer)?;
+    Ok(entered.log)
 }
 
-fn main() {
+fn main(rt: HostRuntime) -> io::Result<()> {
     let log = Log::empty(END).log;
     // one pole, 23:00 to 02:00
-    let log = enter(log, 1_380, 1_560, 500, 1);
+    let log = enter(&rt, log, 1_380, 1_560, 500, 1)?;
     // 02:00 to 03:00, which touches it
-    let log = enter(log, 1_560, 1_620, 300, 1);
+    let log = enter(&rt, log, 1_560, 1_620, 300, 1)?;
     // the other pole at the same time, 01:00 to 01:30
-    let log = enter(log, 1_500, 1_530, 400, 2);
+    let log = enter(&rt, log, 1_500, 1_530, 400, 2)?;
     // 01:10 to 01:20, when 1,001 MW would be lost
-    let log = enter(log, 1_510, 1_520, 101, 3);
-    say::lost(b"before midnight", outage::lost_energy(log, 0, MIDNIGHT));
-    say::lost(b"after midnight", outage::lost_energy(log, MIDNIGHT, END));
-    say::lost(b"in all", outage::lost_energy(log, 0, END));
+    let log = enter(&rt, log, 1_510, 1_520, 101, 3)?;
+    say::lost(
+        &rt,
+        "before midnight",
+        outage::lost_energy(log, 0, MIDNIGHT),
+    )?;
+    say::lost(
+        &rt,
+        "after midnight",
+        outage::lost_energy(log, MIDNIGHT, END),
+    )?;
+    say::lost(&rt, "in all", outage::lost_energy(log, 0, END))
 }

@@ -1,7 +1,11 @@
 // Reads an input to its end, or to a read that fails.
-ghost use Rattle.std.specs.Prelude.{◌≡◌};
-ghost use Rattle.io.specs.Counts.{IsPrefixLen};
+ghost use Rattle.std.specs.Prelude.{◌≡◌, ◌≤◌, length, take};
 ghost use Rattle.oldsheet.specs.Input.{ended_by};
+
+use std::io::Read;
+
+// What `ended` is told of a read that failed: a number below zero.
+const FAILED: isize = -1;
 
 // How many bytes were read, and whether the read after them failed.
 #[derive(Clone, Copy)]
@@ -21,17 +25,17 @@ fn ended(n: usize, answer: isize) -> Input
 }
 
 // Reads until the input ends, a read fails or buf is full; the bytes stand at the start of buf.
-pub(crate) fn read_whole(fd: i32, buf: &mut [u8]) -> Input
-    ensures { IsPrefixLen result.bytes buf.new }
+pub(crate) fn read_whole<R: Read>(from: &mut R, buf: &mut [u8]) -> Input
+    ensures within { result.bytes ≤ length buf.new }
+    ensures prefix { result.bytes ≡ length (take result.bytes buf.new) }
 {
     let mut done: usize = 0;
     while done < buf.len() {
-        let answer = libc::read(fd, &mut buf[done..]);
-        let more = io::count(answer, &buf[done..]);
-        if more == 0 {
-            return ended(done, answer);
+        match from.read(&mut buf[done..]) {
+            Ok(0) => return ended(done, 0),
+            Ok(more) => done += more,
+            Err(_) => return ended(done, FAILED),
         }
-        done += more;
     }
     Input {
         bytes: done,

@@ -8,12 +8,12 @@ mod say;
 ghost use Rattle.oldsheet.specs.Input.{InputGives};
 
 use input::read_whole;
-use libc::STDIN_FILENO;
 use outage::Log;
 use outage_field::FoundEntry;
 use refusals::{Answer, Refusal};
 use sheet_format::Sheet;
 use sheet_reading::read_sheet;
+use std::io;
 
 // A piece more than the longest sheet has always fails, so these bytes decide: rule 17.1.
 const BYTES: usize = Sheet::LONGEST_BYTES + FoundEntry::BYTES;
@@ -33,15 +33,15 @@ fn sheet_in(s: &[u8], failed: bool) -> Sheet
     read_sheet(Log::LAST_REGIME_END, s)
 }
 
-fn main() {
+fn main(rt: HostRuntime) -> io::Result<()> {
     let mut space = [0u8; BYTES];
-    let input = read_whole(STDIN_FILENO, &mut space);
+    let input = read_whole(&mut rt.stdin(), &mut space);
     let n = input.bytes;
     let sheet = sheet_in(&space[..n], input.failed);
     let answer = sheet.answer;
     let log = sheet.log;
     match answer {
-        Answer::Done => say::outages(log),
-        Answer::Refused(why) => say::refused(why, sheet.place),
+        Answer::Done => say::outages(&rt, log),
+        Answer::Refused(why) => say::refused(&rt, why, sheet.place),
     }
 }

@@ -3,36 +3,37 @@ ghost use Rattle.std.specs.Prelude.{◌≡◌, ◌≤◌};
 ghost use Rattle.text.specs.Text.{room, text_of};
 ghost use Rattle.oldsheet.specs.Printout.{refusal_line};
 
-use libc::STDOUT_FILENO;
 use outage::{Entry, Log};
 use refusals::Refusal;
 use sheet_printout::print_outage;
+use std::io;
 use text::{Text, push, push_all, push_decimal};
 
 // Writes a text.
-fn line(t: Text)
+fn line(rt: &impl Print, t: Text) -> io::Result<()>
     requires { t.length ≤ room }
 {
     let bytes = t.bytes;
     let length = t.length;
-    io::write_all(STDOUT_FILENO, &bytes[..length]);
+    rt.write_all(&bytes[..length])
 }
 
-fn outage(e: Entry) {
+fn outage(rt: &impl Print, e: Entry) -> io::Result<()> {
     let printed = print_outage(e);
     let text = printed.text;
-    line(text);
+    line(rt, text)
 }
 
 // The outages of a log, a line each: rule 17.1.
-pub(crate) fn outages(log: Log) {
+pub(crate) fn outages(rt: &impl Print, log: Log) -> io::Result<()> {
     let count = log.count;
     let mut i: usize = 0;
     while i < Log::SLOTS && i < count {
         let e = log.entries[i];
-        outage(e);
+        outage(rt, e)?;
         i += 1;
     }
+    Ok(())
 }
 
 // The line of a refusal, with its number and its place: rule 17.2.
@@ -46,6 +47,7 @@ fn refusal_line(number: u64, place: u64) -> Text
     push(placed, b'\n')
 }
 
-pub(crate) fn refused(why: Refusal, place: usize) {
-    line(refusal_line(why.number() as u64, place as u64));
+pub(crate) fn refused(rt: &impl Print, why: Refusal, place: usize) -> io::Result<()> {
+    let text = refusal_line(why.number() as u64, place as u64);
+    line(rt, text)
 }

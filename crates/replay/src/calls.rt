@@ -6,6 +6,7 @@ use super::{asking, plans, returns, setting, sheets, showing, workbooks};
 use codec::number;
 use levels::Book;
 use outage::Log;
+use std::io;
 use year::Year;
 
 // A year after a call, and whether the call set it.
@@ -36,34 +37,35 @@ fn fitting(call: u64, fits: bool) -> u64 {
 }
 
 // The calls that set a part of the log, its closed minute where it is no other: the log after it.
-pub(crate) fn set_log(call: u64, s: &[u8], log: Log) -> Log {
+pub(crate) fn set_log(rt: &impl Print, call: u64, s: &[u8], log: Log) -> io::Result<Log> {
     match call {
-        32_00012 | 32_00013 => setting::slot(s, log),
-        33_00012 => setting::count(s, log),
-        _ => setting::closed(s, log),
+        32_00012 | 32_00013 => setting::slot(rt, s, log),
+        33_00012 => setting::count(rt, s, log),
+        _ => setting::closed(rt, s, log),
     }
 }
 
 // The calls that set a year: the year after it, and whether it is one of them.
 pub(crate) fn set_year(
+    rt: &impl Print,
     call: u64,
     s: &[u8],
     kept: &[u8; KEPT],
     bytes: usize,
     y: Year,
     log: Log,
-) -> AfterSet {
+) -> io::Result<AfterSet> {
     match of_year(call, s) {
-        17_99999 => with(returns::read(s)),
-        21_00001 => with(returns::read_kept(kept, bytes)),
-        35_00033 => with(setting::year(s, y)),
-        36_00012 => with(setting::line(s, y)),
-        37_00001 => with(setting::fresh()),
-        38_00001 => with(setting::log_of(y, log)),
-        _ => AfterSet {
+        17_99999 => Ok(with(returns::read(rt, s)?)),
+        21_00001 => Ok(with(returns::read_kept(rt, kept, bytes)?)),
+        35_00033 => Ok(with(setting::year(rt, s, y)?)),
+        36_00012 => Ok(with(setting::line(rt, s, y)?)),
+        37_00001 => Ok(with(setting::fresh(rt)?)),
+        38_00001 => Ok(with(setting::log_of(rt, y, log)?)),
+        _ => Ok(AfterSet {
             year: y,
             done: false,
-        },
+        }),
     }
 }
 
@@ -73,6 +75,7 @@ fn with(year: Year) -> AfterSet {
 
 // The calls that change nothing: whether it is one of them.
 pub(crate) fn ask(
+    rt: &impl Print,
     call: u64,
     s: &[u8],
     kept: &[u8; KEPT],
@@ -81,60 +84,67 @@ pub(crate) fn ask(
     years: [Year; 5],
     y: Year,
     log: Log,
-) -> bool {
+) -> io::Result<bool> {
     match call {
-        4_00008 => asking::lost(s, log),
-        6_00001 => asking::availability(s, book, log),
-        7_00001 => asking::target(s, book, log),
-        11_00000 => asking::period(book, years, log),
-        22_00004 => returns::refile_kept(s, kept, bytes),
-        25_00004 => sheets::write(s, log, false),
-        48_00000 => showing::log(log),
-        50_00000 => showing::book(book),
-        52_00002 => sheets::write(s, log, true),
-        _ => ask_of_year(call, s, book, y, log),
+        4_00008 => asking::lost(rt, s, log),
+        6_00001 => asking::availability(rt, s, book, log),
+        7_00001 => asking::target(rt, s, book, log),
+        11_00000 => asking::period(rt, book, years, log),
+        22_00004 => returns::refile_kept(rt, s, kept, bytes),
+        25_00004 => sheets::write(rt, s, log, false),
+        48_00000 => showing::log(rt, log),
+        50_00000 => showing::book(rt, book),
+        52_00002 => sheets::write(rt, s, log, true),
+        _ => ask_of_year(rt, call, s, book, y, log),
     }
 }
 
-fn ask_of_year(call: u64, s: &[u8], book: Book, y: Year, log: Log) -> bool {
+fn ask_of_year(
+    rt: &impl Print,
+    call: u64,
+    s: &[u8],
+    book: Book,
+    y: Year,
+    log: Log,
+) -> io::Result<bool> {
     match of_year(call, s) {
-        8_00001 => asking::levels(book, y, log),
-        9_00001 => asking::revenue(y),
-        18_00003 => returns::write(s, y, false),
-        49_00001 => showing::year(y),
-        51_00003 => returns::write(s, y, true),
-        _ => ask_of_value(call, s),
+        8_00001 => asking::levels(rt, book, y, log),
+        9_00001 => asking::revenue(rt, y),
+        18_00003 => returns::write(rt, s, y, false),
+        49_00001 => showing::year(rt, y),
+        51_00003 => returns::write(rt, s, y, true),
+        _ => ask_of_value(rt, call, s),
     }
 }
 
-fn ask_of_value(call: u64, s: &[u8]) -> bool {
+fn ask_of_value(rt: &impl Print, call: u64, s: &[u8]) -> io::Result<bool> {
     match call {
-        5_00005 => asking::minutes(s),
-        10_00180 => asking::rows(s),
-        12_00016 => asking::gap(s),
-        13_00004 => asking::growth(s),
-        14_00012 => asking::payment(s),
-        15_00024 => asking::settle(s),
-        16_00032 => asking::reconcile(s),
-        26_00004 => sheets::minute(s),
-        27_00010 | 27_00011 => sheets::outage(s),
-        64_00018 | 64_00019 => plans::list(s),
-        67_00018 | 67_00019 => plans::write(s),
-        68_00008 => workbooks::make(s),
-        69_00048 => workbooks::gap(s),
-        70_00224 => workbooks::export(s),
-        71_00252 => workbooks::read(s),
-        72_00013 => workbooks::print(s),
-        _ => ask_at_length(call / 100_000, s),
+        5_00005 => asking::minutes(rt, s),
+        10_00180 => asking::rows(rt, s),
+        12_00016 => asking::gap(rt, s),
+        13_00004 => asking::growth(rt, s),
+        14_00012 => asking::payment(rt, s),
+        15_00024 => asking::settle(rt, s),
+        16_00032 => asking::reconcile(rt, s),
+        26_00004 => sheets::minute(rt, s),
+        27_00010 | 27_00011 => sheets::outage(rt, s),
+        64_00018 | 64_00019 => plans::list(rt, s),
+        67_00018 | 67_00019 => plans::write(rt, s),
+        68_00008 => workbooks::make(rt, s),
+        69_00048 => workbooks::gap(rt, s),
+        70_00224 => workbooks::export(rt, s),
+        71_00252 => workbooks::read(rt, s),
+        72_00013 => workbooks::print(rt, s),
+        _ => ask_at_length(rt, call / 100_000, s),
     }
 }
 
-fn ask_at_length(tag: u64, s: &[u8]) -> bool {
+fn ask_at_length(rt: &impl Print, tag: u64, s: &[u8]) -> io::Result<bool> {
     match tag {
-        19 => returns::refile(s),
-        20 => returns::print(s),
-        66 => plans::read(s),
-        73 => workbooks::fill(s),
-        _ => false,
+        19 => returns::refile(rt, s),
+        20 => returns::print(rt, s),
+        66 => plans::read(rt, s),
+        73 => workbooks::fill(rt, s),
+        _ => Ok(false),
     }
 }

@@ -1,11 +1,10 @@
 // The fields of a script: a tag byte, two length bytes and a value.
-ghost use Rattle.std.specs.Prelude.{◌<◌, ◌≤◌};
-ghost use Rattle.io.specs.Counts.{IsPrefixLen};
+ghost use Rattle.std.specs.Prelude.{◌≡◌, ◌<◌, ◌≤◌, length, take};
 
 use codec::{number, signed};
-use libc::STDIN_FILENO;
 use outage::Entry;
 use settlement::Period;
+use std::io::Read;
 
 // The most bytes of a value.
 pub(crate) const ROOM: usize = 65_535;
@@ -76,7 +75,8 @@ pub(crate) fn least(n: usize, most: usize) -> usize
 
 // So many bytes, and no more than there are.
 pub(crate) fn clipped(n: usize, space: &[u8]) -> usize
-    ensures { IsPrefixLen result space.now }
+    ensures within { result ≤ length space.now }
+    ensures prefix { result ≡ length (take result space.now) }
 {
     if space.len() < n { space.len() } else { n }
 }
@@ -93,12 +93,29 @@ pub(crate) fn of_year(call: u64, s: &[u8]) -> u64 {
     if number(s, 0, 1) < 5 { call } else { 0 }
 }
 
-// Takes a value of this length, and answers how many bytes of it there are.
-fn value(space: &mut [u8], length: usize) -> usize
-    ensures { IsPrefixLen result space.new }
+// Reads until buf is full, the input ends or a read fails, and answers how many bytes stand at the start of buf.
+fn read_full<R: Read>(from: &mut R, buf: &mut [u8]) -> usize
+    ensures within { result ≤ length buf.new }
+    ensures prefix { result ≡ length (take result buf.new) }
 {
-    let n = clipped(length, space);
-    io::read_full(STDIN_FILENO, &mut space[..n])
+    let mut done: usize = 0;
+    while done < buf.len() {
+        match from.read(&mut buf[done..]) {
+            Ok(0) => return done,
+            Ok(more) => done += more,
+            Err(_) => return done,
+        }
+    }
+    done
+}
+
+// Takes a value of so many bytes, and answers how many of them there are.
+fn value<R: Read>(from: &mut R, space: &mut [u8], bytes: usize) -> usize
+    ensures within { result ≤ length space.new }
+    ensures prefix { result ≡ length (take result space.new) }
+{
+    let n = clipped(bytes, space);
+    read_full(from, &mut space[..n])
 }
 
 // The call of a field of which so many bytes came of its head and of its value.
@@ -113,13 +130,14 @@ fn call_of(head: usize, tag: u8, length: u16, got: usize) -> u64 {
 }
 
 // Takes the next field.
-pub(crate) fn take(space: &mut [u8]) -> Field
-    ensures { IsPrefixLen result.length space.new }
+pub(crate) fn take<R: Read>(from: &mut R, space: &mut [u8]) -> Field
+    ensures within { result.length ≤ length space.new }
+    ensures prefix { result.length ≡ length (take result.length space.new) }
 {
     let mut head = [0u8; 3];
-    let began = io::read_full(STDIN_FILENO, &mut head);
+    let began = read_full(from, &mut head);
     let length = u16_at(&head, 1);
-    let got = value(space, length as usize);
+    let got = value(from, space, length as usize);
     Field {
         call: call_of(began, u8_at(&head, 0), length, got),
         length: got,

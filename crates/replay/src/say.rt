@@ -1,78 +1,78 @@
 // Answers on standard output: a line of decimal numbers each.
-use libc::STDOUT_FILENO;
 use money::{is_negative, magnitude};
+use std::io;
 
 // The number that a line starts with.
-pub(crate) fn number(n: u8) {
-    io::print_decimal(STDOUT_FILENO, n as u64);
+pub(crate) fn number(rt: &impl Print, n: u8) -> io::Result<()> {
+    rt.print(n as u64)
 }
 
 // A figure more.
-pub(crate) fn figure(x: u64) {
-    io::write_all(STDOUT_FILENO, b" ");
-    io::print_decimal(STDOUT_FILENO, x);
+pub(crate) fn figure(rt: &impl Print, x: u64) -> io::Result<()> {
+    rt.print(" ")?;
+    rt.print(x)
 }
 
 // A byte more.
-pub(crate) fn byte(x: u8) {
-    figure(x as u64);
+pub(crate) fn byte(rt: &impl Print, x: u8) -> io::Result<()> {
+    figure(rt, x as u64)
 }
 
 // A signed figure more.
-pub(crate) fn pounds(z: i64) {
+pub(crate) fn pounds(rt: &impl Print, z: i64) -> io::Result<()> {
     if is_negative(z) {
-        io::write_all(STDOUT_FILENO, b" -");
-        io::print_decimal(STDOUT_FILENO, magnitude(z));
+        rt.print(" -")?;
+        rt.print(magnitude(z))
     } else {
-        figure(magnitude(z));
+        figure(rt, magnitude(z))
     }
 }
 
 // The end of an answer: the call was carried out.
-pub(crate) fn end() -> bool {
-    io::write_all(STDOUT_FILENO, b"\n");
-    true
+pub(crate) fn end(rt: &impl Print) -> io::Result<bool> {
+    rt.print("\n")?;
+    Ok(true)
 }
 
 // The answer of a call that gives one figure.
-pub(crate) fn one(n: u8, x: u64) -> bool {
-    number(n);
-    figure(x);
-    end()
+pub(crate) fn one(rt: &impl Print, n: u8, x: u64) -> io::Result<bool> {
+    number(rt, n)?;
+    figure(rt, x)?;
+    end(rt)
 }
 
 // The answer of a call that gives an amount.
-pub(crate) fn amount(n: u8, z: i64) -> bool {
-    number(n);
-    pounds(z);
-    end()
+pub(crate) fn amount(rt: &impl Print, n: u8, z: i64) -> io::Result<bool> {
+    number(rt, n)?;
+    pounds(rt, z)?;
+    end(rt)
 }
 
 // The answer of a call that gives two figures.
-pub(crate) fn two(n: u8, x: u64, y: u64) -> bool {
-    number(n);
-    figure(x);
-    figure(y);
-    end()
+pub(crate) fn two(rt: &impl Print, n: u8, x: u64, y: u64) -> io::Result<bool> {
+    number(rt, n)?;
+    figure(rt, x)?;
+    figure(rt, y)?;
+    end(rt)
 }
 
 // The answer of a call that gives two amounts.
-pub(crate) fn amounts(n: u8, y: i64, z: i64) -> bool {
-    number(n);
-    pounds(y);
-    pounds(z);
-    end()
+pub(crate) fn amounts(rt: &impl Print, n: u8, y: i64, z: i64) -> io::Result<bool> {
+    number(rt, n)?;
+    pounds(rt, y)?;
+    pounds(rt, z)?;
+    end(rt)
 }
 
 // The answer of what sets something.
-pub(crate) fn set() -> bool {
-    number(0);
-    end()
+pub(crate) fn set(rt: &impl Print) -> io::Result<bool> {
+    number(rt, 0)?;
+    end(rt)
 }
 
 // The last line of a script whose field at this place is malformed.
-pub(crate) fn malformed(place: u64) -> bool {
-    io::write_all(STDOUT_FILENO, b"malformed ");
-    io::print_decimal(STDOUT_FILENO, place);
-    end()
+pub(crate) fn malformed(rt: &impl Print, place: u64) -> io::Result<bool> {
+    rt.print("malformed ")?;
+    rt.print(place)?;
+    end(rt)
 }

@@ -4,6 +4,7 @@ use super::say;
 use codec::number;
 use levels::Book;
 use outage::{Entry, Log};
+use std::io;
 use year::{Line, Year};
 
 // What a slot is set to: where start, end and MW are 0 and the cause is left out, a zero slot.
@@ -17,33 +18,33 @@ fn slot_at(s: &[u8]) -> Entry {
 }
 
 // A slot of the log.
-pub(crate) fn slot(s: &[u8], mut log: Log) -> Log {
+pub(crate) fn slot(rt: &impl Print, s: &[u8], mut log: Log) -> io::Result<Log> {
     let i = (number(s, 0, 2) % 400) as usize;
     let e = slot_at(s);
     log.entries[i] = e;
-    say::set();
-    log
+    say::set(rt)?;
+    Ok(log)
 }
 
 // The log's count and regime end.
-pub(crate) fn count(s: &[u8], mut log: Log) -> Log {
+pub(crate) fn count(rt: &impl Print, s: &[u8], mut log: Log) -> io::Result<Log> {
     log.count = number(s, 0, 8) as usize;
     log.regime_end = u32_at(s, 8);
-    say::set();
-    log
+    say::set(rt)?;
+    Ok(log)
 }
 
 // The log's closed minute.
-pub(crate) fn closed(s: &[u8], mut log: Log) -> Log {
+pub(crate) fn closed(rt: &impl Print, s: &[u8], mut log: Log) -> io::Result<Log> {
     log.closed = u32_at(s, 0);
-    say::set();
-    log
+    say::set(rt)?;
+    Ok(log)
 }
 
 // The book.
-pub(crate) fn book(s: &[u8]) -> Book {
-    say::set();
-    Book {
+pub(crate) fn book(rt: &impl Print, s: &[u8]) -> io::Result<Book> {
+    say::set(rt)?;
+    Ok(Book {
         regime_end: u32_at(s, 0),
         first_target: u32_at(s, 4),
         last_target: u32_at(s, 8),
@@ -54,7 +55,7 @@ pub(crate) fn book(s: &[u8]) -> Book {
         orac: i64_at(s, 44),
         oraf: i64_at(s, 52),
         miss_factor: u16_at(s, 60),
-    }
+    })
 }
 
 // A year, but for its lines and its log.
@@ -76,9 +77,9 @@ fn year_at(s: &[u8], y: Year) -> Year {
     }
 }
 
-pub(crate) fn year(s: &[u8], y: Year) -> Year {
-    say::set();
-    year_at(s, y)
+pub(crate) fn year(rt: &impl Print, s: &[u8], y: Year) -> io::Result<Year> {
+    say::set(rt)?;
+    Ok(year_at(s, y))
 }
 
 fn line_at(s: &[u8]) -> Line {
@@ -90,34 +91,34 @@ fn line_at(s: &[u8]) -> Line {
 }
 
 // A line slot of a year.
-pub(crate) fn line(s: &[u8], mut y: Year) -> Year {
+pub(crate) fn line(rt: &impl Print, s: &[u8], mut y: Year) -> io::Result<Year> {
     let i = (number(s, 1, 1) % 64) as usize;
     let l = line_at(s);
     y.lines[i] = l;
-    say::set();
-    y
+    say::set(rt)?;
+    Ok(y)
 }
 
-pub(crate) fn fresh() -> Year {
-    say::set();
-    Year::fresh()
+pub(crate) fn fresh(rt: &impl Print) -> io::Result<Year> {
+    say::set(rt)?;
+    Ok(Year::fresh())
 }
 
 // A year with the log that stands.
-pub(crate) fn log_of(mut y: Year, log: Log) -> Year {
+pub(crate) fn log_of(rt: &impl Print, mut y: Year, log: Log) -> io::Result<Year> {
     y.log = log;
-    say::set();
-    y
+    say::set(rt)?;
+    Ok(y)
 }
 
 // The log of a year.
-pub(crate) fn log_from(y: Year) -> Log {
-    say::set();
-    y.log
+pub(crate) fn log_from(rt: &impl Print, y: Year) -> io::Result<Log> {
+    say::set(rt)?;
+    Ok(y.log)
 }
 
 // No bytes are kept.
-pub(crate) fn forget() -> usize {
-    say::set();
-    0
+pub(crate) fn forget(rt: &impl Print) -> io::Result<usize> {
+    say::set(rt)?;
+    Ok(0)
 }

@@ -9,6 +9,7 @@ use cells::{Cell, Slot};
 use codec::number;
 use median_period::{MedianPeriod, gap_of_medians, make_period};
 use settlement::Gap;
+use std::io;
 use workbook_cells::{Exported, export_period, read_cells};
 use workbook_filling::fill_workbook;
 
@@ -23,25 +24,25 @@ fn period_at(s: &[u8], at: usize) -> MedianPeriod
     }
 }
 
-fn say_period(p: MedianPeriod) {
-    say::figure(bits_of(p.first));
-    say::figure(bits_of(p.last));
-    say::figure(bits_of(p.median));
+fn say_period(rt: &impl Print, p: MedianPeriod) -> io::Result<()> {
+    say::figure(rt, bits_of(p.first))?;
+    say::figure(rt, bits_of(p.last))?;
+    say::figure(rt, bits_of(p.median))
 }
 
-pub(crate) fn make(s: &[u8]) -> bool {
+pub(crate) fn make(rt: &impl Print, s: &[u8]) -> io::Result<bool> {
     let made = make_period(u32_at(s, 0), u32_at(s, 4));
     let answer = made.answer;
     let period = made.period;
-    say::number(answer.number());
-    say_period(period);
-    say::end()
+    say::number(rt, answer.number())?;
+    say_period(rt, period)?;
+    say::end(rt)
 }
 
-pub(crate) fn gap(s: &[u8]) -> bool {
+pub(crate) fn gap(rt: &impl Print, s: &[u8]) -> io::Result<bool> {
     match gap_of_medians(period_at(s, 0), period_at(s, 24)) {
-        Gap::Hundredths(n) => say::one(0, n as u64),
-        Gap::Refused(why) => say::one(why.number(), 0),
+        Gap::Hundredths(n) => say::one(rt, 0, n as u64),
+        Gap::Refused(why) => say::one(rt, why.number(), 0),
     }
 }
 
@@ -69,32 +70,32 @@ pub(crate) fn good_kinds(s: &[u8]) -> bool {
     true
 }
 
-fn say_kind(kind: u8, bits: u64) {
-    say::byte(kind);
-    say::figure(bits);
+fn say_kind(rt: &impl Print, kind: u8, bits: u64) -> io::Result<()> {
+    say::byte(rt, kind)?;
+    say::figure(rt, bits)
 }
 
-fn say_cell(slot: Slot) {
+fn say_cell(rt: &impl Print, slot: Slot) -> io::Result<()> {
     let cell = slot.cell;
     match cell {
-        Cell::Empty => say_kind(0, 0),
-        Cell::Number(x) => say_kind(1, bits_of(x)),
-        Cell::Day(x) => say_kind(2, bits_of(x)),
+        Cell::Empty => say_kind(rt, 0, 0),
+        Cell::Number(x) => say_kind(rt, 1, bits_of(x)),
+        Cell::Day(x) => say_kind(rt, 2, bits_of(x)),
     }
 }
 
 // Says what an export gave: the number, and each cell.
-fn exported(done: Exported) -> bool {
+fn exported(rt: &impl Print, done: Exported) -> io::Result<bool> {
     let answer = done.answer;
     let slots = done.slots;
-    say::number(answer.number());
+    say::number(rt, answer.number())?;
     let mut i: usize = 0;
     while i < Slot::CELLS {
         let slot = slots[i];
-        say_cell(slot);
+        say_cell(rt, slot)?;
         i += 1;
     }
-    say::end()
+    say::end(rt)
 }
 
 // The amounts, from the start on.
@@ -108,9 +109,9 @@ fn amounts_at(s: &[u8]) -> [i64; Slot::AMOUNTS] {
     amounts
 }
 
-pub(crate) fn export(s: &[u8]) -> bool {
+pub(crate) fn export(rt: &impl Print, s: &[u8]) -> io::Result<bool> {
     let amounts = amounts_at(s);
-    exported(export_period(amounts, period_at(s, 200)))
+    exported(rt, export_period(amounts, period_at(s, 200)))
 }
 
 // The 28 cells, from the start on.
@@ -126,35 +127,36 @@ fn slots_at(s: &[u8]) -> [Slot; Slot::CELLS] {
     slots
 }
 
-fn say_amounts(amounts: [i64; Slot::AMOUNTS]) {
+fn say_amounts(rt: &impl Print, amounts: [i64; Slot::AMOUNTS]) -> io::Result<()> {
     let mut i: usize = 0;
     while i < Slot::AMOUNTS {
         let z = amounts[i];
-        say::pounds(z);
+        say::pounds(rt, z)?;
         i += 1;
     }
+    Ok(())
 }
 
-pub(crate) fn read(s: &[u8]) -> bool {
+pub(crate) fn read(rt: &impl Print, s: &[u8]) -> io::Result<bool> {
     let slots = slots_at(s);
     let read = read_cells(slots);
     let answer = read.answer;
     let amounts = read.amounts;
     let period = read.period;
-    say::number(answer.number());
-    say::figure(read.index as u64);
-    say_amounts(amounts);
-    say_period(period);
-    say::end()
+    say::number(rt, answer.number())?;
+    say::figure(rt, read.index as u64)?;
+    say_amounts(rt, amounts)?;
+    say_period(rt, period)?;
+    say::end(rt)
 }
 
-pub(crate) fn print(s: &[u8]) -> bool {
+pub(crate) fn print(rt: &impl Print, s: &[u8]) -> io::Result<bool> {
     let printed = print_cell(u32_at(s, 0) as usize, cell_at(s, 4));
     let answer = printed.answer;
     let text = printed.text;
-    returns::printed(answer.number(), text)
+    returns::printed(rt, answer.number(), text)
 }
 
-pub(crate) fn fill(s: &[u8]) -> bool {
-    exported(fill_workbook(s))
+pub(crate) fn fill(rt: &impl Print, s: &[u8]) -> io::Result<bool> {
+    exported(rt, fill_workbook(s))
 }
