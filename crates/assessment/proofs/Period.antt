@@ -1,36 +1,37 @@
 -- What the assessment of the first n years of a period comes to, from what the calls made on the way answer. Assumes nothing.
 use mathlib.Core.Path.{◌≡◌, refl, sym, ap, ◌∙◌}
-use mathlib.Core.Bool.{Bool, true, cond, not, ◌&&◌}
+use mathlib.Core.Bool.{Bool, true, false, cond, not, ◌&&◌}
 use mathlib.Core.List.{List, [], ◌∷◌, map}
 use Prim.Native.Nat.{ℕ, zero, suc, ◌≤◌, ◌<◌}
 use native.Mathlib.Omega.{arith}
 use lib.Dec.{eqb}
-use lib.ListN.{length, take, get_or}
+use lib.ListN.{length, take, drop, get_or}
 use lib.IntN.{ℤ, pos}
 use lib.Signed.{lt_z, non_neg}
+use Rattle.std.specs.Prelude.{Result, Ok, Err}
 use Rattle.lists.specs.Lists.{all}
 use Rattle.lists.proofs.Tests.{and_left, and_right, and_made, not_no}
 use Rattle.refusals.specs.declared.Refusal.TheVariants.{BadBook, BrokenLog, BadYear, TooLarge, FloorAboveCap}
-use Rattle.refusals.specs.Refusals.{first_applicable}
-use Rattle.refusals.proofs.Laws.{all_clear}
+use Rattle.refusals.specs.declared.Refusal.{Refusal}
+use Rattle.refusals.specs.Refusals.{Rows, refusal_number, answer_number, first_applicable}
+use Rattle.refusals.proofs.Laws.{all_clear, never_zero}
+use Rattle.refusals.proofs.Cases.{refused_meets}
 use Rattle.outage.specs.declared.Log.{Log}
 use Rattle.outage.specs.Log.{valid_log}
 use Rattle.year.specs.declared.Year.{Year}
 use Rattle.year.specs.Year.{good_year}
 use Rattle.year.proofs.Says.{year_says}
 use Rattle.levels.specs.declared.Book.{Book}
-use Rattle.levels.specs.declared.measuring.Availability.{Availability}
-use Rattle.levels.specs.declared.measuring.Availability.TheVariants as availability
 use Rattle.levels.specs.Book.{book_holds, good_book}
-use Rattle.levels.specs.Availability.{availability_rows, availability_number, AvailabilityGives}
+use Rattle.levels.specs.Availability.{availability_rows, AvailabilityGives}
 use Rattle.levels.specs.Levels.{cap_level, floor_of, level_fits}
 use Rattle.levels.proofs.Says.{holds_good}
 use Rattle.levels.proofs.Ranges.{cap_good, floor_good}
 use Rattle.revenue.specs.Revenue.{assessed_revenue}
 use Rattle.balances.specs.declared.assessing.Yearly.{Yearly}
-use Rattle.balances.specs.declared.assessing.Assessment.{Assessment}
+use Rattle.balances.specs.declared.assessing.Figures.{Figures}
 use Rattle.balances.specs.Balance.{good_count, good_index, good_yearly_amount, good_amounts}
-use Rattle.balances.specs.Assessment.{CLN, FLN, assess_rows_of, balances_within, figures_in, assessable, no_figures, not_negative, assess_number, YearsGives}
+use Rattle.balances.specs.Assessment.{CLN, FLN, assess_rows_of, balances_within, figures_in, assessable, no_figures, not_negative, YearsGives}
 use Rattle.assessment.specs.Period.{period_rows_of, year_fits, first_rows, yearly_of, good_period_years, one_period}
 use Rattle.assessment.specs.Steps.{FirstGives}
 use Rattle.assessment.proofs.Years.{no_year, first_at, row_at}
@@ -92,21 +93,39 @@ module _ (book : Book) (years : List Year) (log : Log) (n : ℕ) where
   abbrev yearly : Yearly
   yearly = yearly_of book years log n
 
-  pub book_told : (r : Availability) (x : ℕ) → AvailabilityGives book log 1 r → r ≡ availability.MwMinutes x → book_holds book log.regime_end ≡ true
-  book_told r x g e =
-      not_no (book_holds book log.regime_end) (all_clear (availability_rows book log 1) (sym g.0 ∙ ap availability_number e)).0
+  gives_none : (why : Refusal) → refusal_number why ≡ first_applicable (period_rows_of book years log n) → FirstGives book years log n (Err why)
+  gives_none = refused_meets no_figures (period_rows_of book years log n) (figures_in yearly n)
 
-  pub log_told : (r : Availability) (x : ℕ) → AvailabilityGives book log 1 r → r ≡ availability.MwMinutes x → valid_log log ≡ true
-  log_told r x g e = not_no (valid_log log) (all_clear (availability_rows book log 1) (sym g.0 ∙ ap availability_number e)).1.0
+  -- a row that stops the availability of year 1 stops the period
+  pub gives_no_start : (why : Refusal) → refusal_number why ≡ first_applicable (availability_rows book log 1) → FirstGives book years log n (Err why)
+  gives_no_start why g = gives_none why (g ∙ same_stop (book_holds book log.regime_end) (valid_log log) (drop 2 (period_rows_of book years log n)) (omega (arith, never_zero why)))
+    where
+      same_stop : (b v : Bool) (rest : Rows) → 0 < first_applicable ((BadBook, not b) ∷ (BrokenLog, not v) ∷ [])
+          → first_applicable ((BadBook, not b) ∷ (BrokenLog, not v) ∷ []) ≡ first_applicable ((BadBook, not b) ∷ (BrokenLog, not v) ∷ rest)
+      same_stop false v rest h = refl
+      same_stop true false rest h = refl
+      same_stop true true rest h = absurd (omega arith)
 
-  module _ (b : book_holds book log.regime_end ≡ true) (v : valid_log log ≡ true) where
+  module _ {x : ℕ} (told : AvailabilityGives book log 1 (Ok x)) where
+    pub book_told : book_holds book log.regime_end ≡ true
+    book_told = not_no (book_holds book log.regime_end) (all_clear (availability_rows book log 1) (sym told.0)).0
+
+    pub log_told : valid_log log ≡ true
+    log_told = not_no (valid_log log) (all_clear (availability_rows book log 1) (sym told.0)).1.0
+
+    pub gives_no_years : good_period_years years n ≡ false → FirstGives book years log n (Err BadYear)
+    gives_no_years g = gives_none BadYear (simp (book_told, log_told, g))
+
+    pub gives_no_amounts : good_period_years years n ≡ true → all (year_fits book log) (take n years) ≡ false → FirstGives book years log n (Err TooLarge)
+    gives_no_amounts g f = gives_none TooLarge (simp (book_told, log_told, g, f))
+
     -- the balances' answer is the period's
     pub gives_assessed : good_count n ≡ true → n ≤ length years → good_period_years years n ≡ true → all (year_fits book log) (take n years) ≡ true
-        → (r : Assessment) → YearsGives yearly n r → FirstGives book years log n r
+        → (r : Result Figures Refusal) → YearsGives yearly n r → FirstGives book years log n r
     gives_assessed count fits g f r a =
-        let range = amounts_in_range count fits (holds_good book log.regime_end b) (good_records years n g) f in
+        let range = amounts_in_range count fits (holds_good book log.regime_end book_told) (good_records years n g) f in
         let m : first_applicable (assess_rows_of yearly n) ≡ first_applicable (period_rows_of book years log n) =
-        same_rows (book_holds book log.regime_end) (valid_log log) (good_period_years years n) (all (year_fits book log) (take n years)) (assessable yearly n) (balances_within yearly n) (lt_z (CLN yearly n) (FLN yearly n)) b v g f range in
+        same_rows (book_holds book log.regime_end) (valid_log log) (good_period_years years n) (all (year_fits book log) (take n years)) (assessable yearly n) (balances_within yearly n) (lt_z (CLN yearly n) (FLN yearly n)) book_told log_told g f range in
         (a.0 ∙ m, a.1 ∙ ap (λ (k : ℕ). cond (eqb k 0) (figures_in yearly n) no_figures) m)
       where
         same_rows : (b v g f r w t : Bool) → b ≡ true → v ≡ true → g ≡ true → f ≡ true → r ≡ true
@@ -115,7 +134,7 @@ module _ (book : Book) (years : List Year) (log : Log) (n : ℕ) where
         same_rows b v g f r w t i j k l m = simp (i, j, k, l, m)
 
   -- what is not refused is assessed as its yearly amounts are
-  pub period_assessed : (r : Assessment) → good_count n ≡ true → n ≤ length years → FirstGives book years log n r → assess_number r ≡ 0 → YearsGives yearly n r
+  pub period_assessed : (r : Result Figures Refusal) → good_count n ≡ true → n ≤ length years → FirstGives book years log n r → answer_number r ≡ 0 → YearsGives yearly n r
   period_assessed r count fits g z =
       let none : first_applicable (period_rows_of book years log n) ≡ 0 = sym g.0 ∙ z in
       let clear = all_clear (period_rows_of book years log n) none in

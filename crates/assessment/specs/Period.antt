@@ -1,8 +1,9 @@
 -- The assessment of a period: rules 2.3 and 8.5 (SC3 22).
-use Rattle.std.specs.Prelude.{Bool, true, cond, not, ◌&&◌, List, [], ◌∷◌, ◌++◌, map, ◌≡◌, ℕ, suc, ◌%◌, eqb, take, drop, replicate, pos}
+use Rattle.std.specs.Prelude.{Bool, true, cond, not, ◌&&◌, List, [], ◌∷◌, ◌++◌, map, ◌≡◌, ℕ, suc, ◌%◌, eqb, take, drop, replicate, Result, pos}
 use Rattle.std.specs.Int.Signed.{lt_z}
 use Rattle.lists.specs.Lists.{all}
-use Rattle.refusals.specs.Refusals.{Rows, accepted, first_applicable}
+use Rattle.refusals.specs.Refusals.{Rows, accepted, first_applicable, answer_number, given_or}
+use Rattle.refusals.specs.declared.Refusal.{Refusal}
 use Rattle.refusals.specs.declared.Refusal.TheVariants.{BadBook, BrokenLog, BadYear, TooLarge, FloorAboveCap}
 use Rattle.outage.specs.declared.Log.{Log}
 use Rattle.outage.specs.Log.{valid_log}
@@ -15,8 +16,7 @@ use Rattle.revenue.specs.Revenue.{assessed_revenue}
 use Rattle.balances.specs.declared.assessing.Yearly.{Yearly}
 use Rattle.balances.specs.declared.assessing.Figures.{Figures}
 use Rattle.balances.specs.Balance.{period_years}
-use Rattle.balances.specs.Assessment.{CLN, FLN, balances_within, figures_in, no_figures, assess_number, assess_figures}
-use Rattle.balances.specs.declared.assessing.Assessment.{Assessment}
+use Rattle.balances.specs.Assessment.{CLN, FLN, balances_within, figures_in, no_figures}
 
 -- ---- rule 2.3: the numbers follow one another, from the first year of a period on
 abbrev pub numbers_from : ℕ → List Year → Bool
@@ -74,5 +74,5 @@ abbrev pub period_given : Book → List Year → Log → Figures
 period_given book years log = period_given_of book years log period_years
 
 -- what `assess_period` promises of its result
-abbrev pub PeriodGives : Book → List Year → Log → Assessment → Type 0
-PeriodGives book years log r = (assess_number r ≡ first_applicable (period_rows book years log)) × (assess_figures r ≡ period_given book years log)
+abbrev pub PeriodGives : Book → List Year → Log → Result Figures Refusal → Type 0
+PeriodGives book years log r = (answer_number r ≡ first_applicable (period_rows book years log)) × (given_or no_figures r ≡ period_given book years log)

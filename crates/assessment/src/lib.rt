@@ -1,27 +1,27 @@
 // The assessment of a period, from the book, its years and the running log: rule 8.5 (SC3).
-// What is inside is over the first n of a period's years.
+// What is inside is over any years of one to five.
 #![tactic(auto)]
 
-ghost use Rattle.std.specs.Prelude.{◌≡◌, cond, true, ◌<◌, ◌≤◌, take};
+ghost use Rattle.std.specs.Prelude.{◌≡◌, cond, true, ◌<◌, ◌≤◌, length, Ok, Err};
 ghost use Rattle.lists.specs.Lists.{all};
 ghost use Rattle.levels.specs.Book.{book_holds};
 ghost use Rattle.outage.specs.Log.{valid_log};
+ghost use Rattle.refusals.specs.declared.Refusal.TheVariants.{TooLarge};
 ghost use Rattle.year.specs.Year.{good_year};
 ghost use Rattle.balances.specs.Balance.{good_count, period_years};
 ghost use Rattle.assessment.specs.Period.{year_fits, yearly_of, good_period_years, PeriodGives};
-ghost use Rattle.assessment.specs.Steps.{good_from, no_amounts, no_row, row_from, with_row, FirstGives};
+ghost use Rattle.assessment.specs.Steps.{good_from, no_amounts, row_of, with_row, FirstGives};
 
-use balances::{Assessment, Yearly, assess_years};
-use levels::{Availability, Book, Levels, availability_of, levels_of};
+use balances::{Figures, Yearly, assess_years};
+use levels::{Book, availability_of, levels_of};
 use outage::Log;
-use refusals::{Answer, Refusal};
-use revenue::{Revenue, revenue_of};
+use refusals::Refusal;
+use revenue::revenue_of;
 use year::{Year, check_year};
 
-// What one year brings, and whether its levels and revenue fit: zeros where they do not.
-#[derive(Clone, Copy)]
+// What one year brings.
+#[derive(Clone, Copy, Debug, PartialEq, Eq)]
 struct Row {
-    fits: bool,
     index: u32,
     revenue: i64,
     cap: i64,
@@ -29,96 +29,56 @@ struct Row {
     wpa: i64,
 }
 
-// What the years bring, and whether all of it fits.
-#[derive(Clone, Copy)]
-struct Filled {
-    fits: bool,
-    yearly: Yearly,
-}
-
-// The first n years are in range and their numbers follow one another from `number` on.
-fn good_from(years: [Year; Yearly::YEARS], n: usize, number: u8) -> bool
-    requires { n ≤ period_years }
-    ensures { result ≡ good_from number (take n years) }
+// The years are in range and their numbers follow one another from `number` on.
+fn good_from(years: &[Year], number: u8) -> bool
+    requires { length years.now ≤ period_years }
+    ensures { result ≡ good_from number years.now }
 {
-    let mut k: usize = 0;
-    while k < n {
-        let y = years[k];
-        let answer = check_year(y);
-        if let Answer::Refused(_) = answer {
+    for (k, y) in years.iter().enumerate() {
+        if check_year(*y).is_err() || usize::from(y.number) != usize::from(number) + k {
             return false;
         }
-        if y.number as usize != number as usize + k {
-            return false;
-        }
-        k += 1;
     }
     true
 }
 
-// The first n years are in range, and those of one assessment period, in order.
+// The years are in range, and those of one assessment period, in order.
 #[tactic(auto, using(crate::proofs::Years::period_other, crate::proofs::Years::period_start))]
-fn good_period_years(years: [Year; Yearly::YEARS], n: usize) -> bool
-    requires { (1 ≤ n) × (n ≤ period_years) }
-    ensures { result ≡ good_period_years years n }
+fn good_period_years(years: &[Year]) -> bool
+    requires { (1 ≤ length years.now) × (length years.now ≤ period_years) }
+    ensures { result ≡ good_period_years years.now (length years.now) }
 {
-    let first = years[0];
-    let number = first.number;
-    if number % (Yearly::YEARS as u8) != 1 {
-        return false;
-    }
-    good_from(years, n, number)
+    let number = years[0].number;
+    number % (Yearly::YEARS as u8) == 1 && good_from(years, number)
 }
 
-// One year's amounts, from its levels and its assessed revenue.
-fn row_of(found: Levels, assessed: Revenue, index: u32, wpa: i64) -> Row
-    ensures { result ≡ row_from found assessed index wpa }
+// One year's amounts, from its levels and its assessed revenue; 11 where one of them does not fit.
+fn row_of(book: Book, y: Year, log: Log) -> Result<Row, Refusal>
+    requires { (book_holds book log.regime_end ≡ true) × (valid_log log ≡ true) × (good_year y ≡ true) }
+    ensures { result ≡ row_of book y log }
 {
-    let Levels::Pounds { cap, floor } = found else {
-        return no_row();
-    };
-    let Revenue::Pounds(revenue) = assessed else {
-        return no_row();
-    };
-    Row {
-        fits: true,
-        index,
+    let levels = levels_of(book, y, log)?;
+    let revenue = revenue_of(y)?;
+    Ok(Row {
+        index: y.pppi,
         revenue,
-        cap,
-        floor,
-        wpa,
-    }
-}
-
-fn no_row() -> Row
-    ensures { result ≡ no_row }
-{
-    Row {
-        fits: false,
-        index: 0,
-        revenue: 0,
-        cap: 0,
-        floor: 0,
-        wpa: 0,
-    }
+        cap: levels.cap,
+        floor: levels.floor,
+        wpa: y.wpa,
+    })
 }
 
 // The amounts with one year's put in at its place.
-fn with_row(yearly: Yearly, k: usize, row: Row) -> Yearly
+fn with_row(mut yearly: Yearly, k: usize, row: Row) -> Yearly
     requires { k < period_years }
     ensures { result ≡ with_row yearly k row }
 {
-    let revenue = row.revenue;
-    let cap = row.cap;
-    let floor = row.floor;
-    let paid = row.wpa;
-    let mut next = yearly;
-    next.index[k] = row.index;
-    next.revenue[k] = revenue;
-    next.cap[k] = cap;
-    next.floor[k] = floor;
-    next.wpa[k] = paid;
-    next
+    yearly.index[k] = row.index;
+    yearly.revenue[k] = row.revenue;
+    yearly.cap[k] = row.cap;
+    yearly.floor[k] = row.floor;
+    yearly.wpa[k] = row.wpa;
+    yearly
 }
 
 fn no_amounts() -> Yearly
@@ -133,56 +93,37 @@ fn no_amounts() -> Yearly
     }
 }
 
-// The first n years' amounts, where book, log and years are in range.
-fn amounts_of(book: Book, years: [Year; Yearly::YEARS], log: Log, n: usize) -> Filled
-    requires { (n ≤ period_years)
+// The years' amounts, where book, log and years are in range; 11 where one of them does not fit.
+fn amounts_of(book: Book, years: &[Year], log: Log) -> Result<Yearly, Refusal>
+    requires { (length years.now ≤ period_years)
         × (book_holds book log.regime_end ≡ true)
         × (valid_log log ≡ true)
-        × (all good_year (take n years) ≡ true) }
-    ensures { (result.fits ≡ all (year_fits book log) (take n years))
-        × (result.yearly ≡ cond (all (year_fits book log) (take n years)) (yearly_of book years log n) no_amounts) }
+        × (all good_year years.now ≡ true) }
+    ensures { result ≡ cond (all (year_fits book log) years.now) (Ok (yearly_of book years.now log (length years.now))) (Err TooLarge) }
 {
     let mut yearly = no_amounts();
-    let mut k: usize = 0;
-    while k < n {
-        let y = years[k];
-        let found = levels_of(book, y, log);
-        let row = row_of(found, revenue_of(y), y.pppi, y.wpa);
-        if !row.fits {
-            return Filled {
-                fits: false,
-                yearly: no_amounts(),
-            };
-        }
-        yearly = with_row(yearly, k, row);
-        k += 1;
+    for (k, y) in years.iter().enumerate() {
+        yearly = with_row(yearly, k, row_of(book, *y, log)?);
     }
-    Filled { fits: true, yearly }
+    Ok(yearly)
 }
 
-// The assessment of the first n years of a period.
-fn assess_first(book: Book, years: [Year; Yearly::YEARS], log: Log, n: usize) -> Assessment
-    requires { good_count n ≡ true }
-    ensures { FirstGives book years log n result }
+// The assessment of the first years of a period.
+fn assess_first(book: Book, years: &[Year], log: Log) -> Result<Figures, Refusal>
+    requires { good_count (length years.now) ≡ true }
+    ensures { FirstGives book years.now log (length years.now) result }
 {
-    let available = availability_of(book, log, 1);
-    if let Availability::Refused(why) = available {
-        return Assessment::Refused(why);
+    availability_of(book, log, 1)?;
+    if !good_period_years(years) {
+        return Err(Refusal::BadYear);
     }
-    if !good_period_years(years, n) {
-        return Assessment::Refused(Refusal::BadYear);
-    }
-    let amounts = amounts_of(book, years, log, n);
-    if !amounts.fits {
-        return Assessment::Refused(Refusal::TooLarge);
-    }
-    let yearly = amounts.yearly;
-    assess_years(yearly, n)
+    let yearly = amounts_of(book, years, log)?;
+    assess_years(yearly, years.len())
 }
 
 // The assessment of a period, over all of its years.
-pub fn assess_period(book: Book, years: [Year; Yearly::YEARS], log: Log) -> Assessment
+pub fn assess_period(book: Book, years: [Year; Yearly::YEARS], log: Log) -> Result<Figures, Refusal>
     ensures { PeriodGives book years log result }
 {
-    assess_first(book, years, log, Yearly::YEARS)
+    assess_first(book, &years, log)
 }

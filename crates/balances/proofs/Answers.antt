@@ -7,20 +7,20 @@ use native.Mathlib.Omega.{arith}
 use lib.Dec.{eqb}
 use lib.IntN.{ℤ, nat_abs, ◌-ℤ◌}
 use lib.Signed.{lt_z}
-use Rattle.refusals.specs.Refusals.{Rows, first_applicable, accepted}
+use Rattle.std.specs.Prelude.{Option, Some, None, Result}
+use Rattle.refusals.specs.Refusals.{Rows, first_applicable, accepted, answer_number, given_or}
+use Rattle.refusals.specs.declared.Refusal.{Refusal}
 use Rattle.refusals.specs.declared.Refusal.TheVariants.{TooLarge, FloorAboveCap}
-use Rattle.balances.specs.declared.carrying.Balance.{Balance}
-use Rattle.balances.specs.declared.carrying.Balance.TheVariants.{Is, Over}
 use Rattle.balances.specs.declared.assessing.Yearly.{Yearly}
-use Rattle.balances.specs.declared.assessing.Assessment.{Assessment}
+use Rattle.balances.specs.declared.assessing.Figures.{Figures}
 use Rattle.balances.specs.Balance.{balance_after, most_balance, later_within, good_amounts}
 use Rattle.balances.specs.Steps.{balance_of, Bounded, found_rows, found_figures}
-use Rattle.balances.specs.Assessment.{assessable, ARN, CLN, FLN, WPAN, balances_within, held_between, figures_of, figures_in, no_figures, assess_rows_of, assess_given_of, assess_number, assess_figures, YearsGives}
+use Rattle.balances.specs.Assessment.{assessable, ARN, CLN, FLN, WPAN, balances_within, held_between, figures_of, figures_in, no_figures, assess_rows_of, assess_given_of, YearsGives}
 use Rattle.balances.proofs.Years.{years_small}
 
 -- ---- four balances, each with its test
-abbrev limited : Bool → ℤ → Balance
-limited t z = cond t (Is z) Over
+abbrev limited : Bool → ℤ → Option ℤ
+limited t z = cond t (Some z) None
 
 limited_bounded : (t : Bool) (z : ℤ) → (t ≡ true → nat_abs z ≤ most_balance) → Bounded (limited t z)
 limited_bounded true z h = h refl
@@ -56,7 +56,7 @@ past_nine : (t : Bool) (n : ℕ) → t ≡ true → cond (not t) 9 n ≡ n
 past_nine t n e = simp e
 
 module _ (y : Yearly) (n : ℕ) (good : assessable y n ≡ true) where
-  abbrev balance_for : List ℤ → Balance
+  abbrev balance_for : List ℤ → Option ℤ
   balance_for amounts = balance_of y.index amounts n
 
   abbrev test : List ℤ → Bool
@@ -75,20 +75,14 @@ module _ (y : Yearly) (n : ℕ) (good : assessable y n ≡ true) where
       ∙ ap (λ (k : ℕ). cond (eqb k 0) (figures_in y n) no_figures) (sym rows_left_law)
 
   -- what four balances give, each of its amounts, is what the call gives
-  pub found_is : (r : Assessment) (a c f w : Balance) → a ≡ balance_for y.revenue → c ≡ balance_for y.cap → f ≡ balance_for y.floor → w ≡ balance_for y.wpa
-      → (assess_number r ≡ first_applicable (found_rows a c f w)) × (assess_figures r ≡ found_figures a c f w)
+  pub found_is : (r : Result Figures Refusal) (a c f w : Option ℤ) → a ≡ balance_for y.revenue → c ≡ balance_for y.cap → f ≡ balance_for y.floor → w ≡ balance_for y.wpa
+      → (answer_number r ≡ first_applicable (found_rows a c f w)) × (given_or no_figures r ≡ found_figures a c f w)
       → YearsGives y n r
   found_is r a c f w ea ec ef ew g = let h = rw (ea, ec, ef, ew) at g in (h.0 ∙ found_number, h.1 ∙ found_given)
 
--- ---- figures of the same balances are the same
+-- ---- differences of the same numbers are the same
 pub same_less : {a b c d : ℤ} → a ≡ b → c ≡ d → a -ℤ c ≡ b -ℤ d
 same_less p q = cc
-
-pub same_below : {a b c d : ℤ} → a ≡ b → c ≡ d → lt_z a c ≡ lt_z b d
-same_below p q = cc
-
-pub same_figures : {a b c d e f g h : ℤ} → a ≡ b → c ≡ d → e ≡ f → g ≡ h → figures_of a c e g ≡ figures_of b d f h
-same_figures p q r s = cc
 
 -- ---- held between two bounds
 cond_small : (t : Bool) (a b : ℤ) (n : ℕ) → nat_abs a ≤ n → nat_abs b ≤ n → nat_abs (cond t a b) ≤ n

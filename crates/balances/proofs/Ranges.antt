@@ -1,61 +1,79 @@
 -- Laws on the ranges of the first n years. Assumes nothing.
-use mathlib.Core.Path.{◌≡◌, refl, sym, ◌∙◌}
-use mathlib.Core.Bool.{Bool, true, false, ◌&&◌}
+use mathlib.Core.Path.{◌≡◌, refl, sym, ap, ◌∙◌}
+use mathlib.Core.Bool.{Bool, true, false, not, ◌&&◌}
 use mathlib.Core.Logic.{⊎_elim}
 use mathlib.Core.List.{List}
-use Prim.Native.Nat.{ℕ, zero, suc, ◌-◌, ◌≤◌, ◌<◌}
-use native.Mathlib.Nat.{eq-or-lt_of_le, le_of_suc-le-suc, not-suc-le-zero}
+use Prim.Native.Nat.{ℕ, zero, suc, ◌+◌, ◌≤◌, ◌<◌}
+use native.Mathlib.Numerals.{add-one}
 use native.Mathlib.Omega.{arith}
+use native.Mathlib.Nat.{eq-or-lt_of_le, le_of_suc-le-suc, not-suc-le-zero}
 use lib.Dec.{leb}
 use lib.ListN.{get_or}
 use lib.IntN.{ℤ, pos, nat_abs}
-use lib.Signed.{non_neg}
+use lib.Signed.{lt_z, non_neg}
 use borrow.Author.Tests.{leb-true}
-use Rattle.lists.proofs.Tests.{and_left, and_right}
+use Rattle.money.proofs.Pounds.{non_neg_is}
+use Rattle.lists.proofs.Tests.{and_left, and_right, and_made}
 use Rattle.balances.specs.declared.assessing.Yearly.{Yearly}
 use Rattle.balances.specs.Balance.{period_years, good_count, good_index, good_yearly_amount, good_amounts}
 use Rattle.balances.specs.Assessment.{not_negative, assessable}
 
--- ---- indices and amounts
-module _ (index : List ℕ) (amounts : List ℤ) where
-  pub good_none : (n : ℕ) → n ≡ 0 → good_amounts index amounts n ≡ true
-  unfolding good_amounts
-  good_none n e = rw e
+-- ---- a test of each of the first n years, the last one first
+module _ (each : ℕ → Bool) (first : ℕ → Bool) (more : (n : ℕ) → first (suc n) ≡ (each n && first n)) where
+  one_more : (k : ℕ) → first k ≡ true → each k ≡ true → first (k + 1) ≡ true
+  one_more k e here = rw add-one (more k ∙ and_made here e)
 
-  -- the last year's test, and the others'
-  good_last : (n : ℕ) → (n ≡ 0 → ⊥)
-      → good_amounts index amounts n ≡ ((good_index (get_or index (n - 1) 0) && good_yearly_amount (get_or amounts (n - 1) (pos 0))) && good_amounts index amounts (n - 1))
-  unfolding good_amounts
-  good_last zero f = absurd (f refl)
-  good_last (suc n) f = let e : suc n - 1 ≡ n = omega arith in rw e
-
-  module _ (n : ℕ) (some : n ≡ 0 → ⊥) where
-    pub bad_index : good_index (get_or index (n - 1) 0) ≡ false → false ≡ good_amounts index amounts n
-    bad_index i = sym (good_last n some ∙ simp i)
-
-    pub bad_amount : good_index (get_or index (n - 1) 0) ≡ true → good_yearly_amount (get_or amounts (n - 1) (pos 0)) ≡ false → false ≡ good_amounts index amounts n
-    bad_amount i a = sym (good_last n some ∙ simp (i, a))
-
-    pub good_on : good_index (get_or index (n - 1) 0) ≡ true → good_yearly_amount (get_or amounts (n - 1) (pos 0)) ≡ true → good_amounts index amounts (n - 1) ≡ good_amounts index amounts n
-    good_on i a = sym (good_last n some ∙ simp (i, a))
-
-  -- each year's test
-  good_at : (n k : ℕ) → good_amounts index amounts n ≡ true → k < n → (good_index (get_or index k 0) && good_yearly_amount (get_or amounts k (pos 0))) ≡ true
-  unfolding good_amounts
-  good_at zero k e h = absurd (not-suc-le-zero h)
-  good_at (suc m) k e h =
-      let here : Bool = good_index (get_or index m 0) && good_yearly_amount (get_or amounts m (pos 0)) in
+  each_of : (n k : ℕ) → first n ≡ true → k < n → each k ≡ true
+  each_of zero k e h = absurd (not-suc-le-zero h)
+  each_of (suc m) k e h =
+      let both : (each m && first m) ≡ true = sym (more m) ∙ e in
       ⊎_elim
-      (λ (q : k ≡ m). rw q (and_left here (good_amounts index amounts m) e))
-      (λ (lt : k < m). good_at m k (and_right here (good_amounts index amounts m) e) lt)
+      (λ (q : k ≡ m). rw q (and_left (each m) (first m) both))
+      (λ (lt : k < m). each_of m k (and_right (each m) (first m) both) lt)
       (eq-or-lt_of_le (le_of_suc-le-suc h))
 
+  one_fails : (n k : ℕ) → k < n → each k ≡ false → false ≡ first n
+  one_fails n k h e = by (first n) refl
+    where
+      by : (b : Bool) → first n ≡ b → false ≡ b
+      by true g = sym e ∙ each_of n k g h
+      by false g = refl
+
+-- ---- indices and amounts
+module _ (index : List ℕ) (amounts : List ℤ) where
+  abbrev pub year_good : ℕ → Bool
+  year_good k = good_index (get_or index k 0) && good_yearly_amount (get_or amounts k (pos 0))
+
+  next_year : (n : ℕ) → good_amounts index amounts (suc n) ≡ (year_good n && good_amounts index amounts n)
+  unfolding good_amounts
+  next_year n = refl
+
+  pub good_none : good_amounts index amounts 0 ≡ true
+  unfolding good_amounts
+  good_none = refl
+
+  pub good_more : (k : ℕ) → good_amounts index amounts k ≡ true → year_good k ≡ true → good_amounts index amounts (k + 1) ≡ true
+  good_more = one_more year_good (good_amounts index amounts) next_year
+
+  pub bad_at : (n k : ℕ) → k < n → year_good k ≡ false → false ≡ good_amounts index amounts n
+  bad_at = one_fails year_good (good_amounts index amounts) next_year
+
+  -- the years before a year in range are in range
+  pub good_before : (n m : ℕ) → m ≤ n → good_amounts index amounts n ≡ true → good_amounts index amounts m ≡ true
+  good_before n zero h e = good_none
+  good_before n (suc m) h e =
+      next_year m
+      ∙ and_made (each_of year_good (good_amounts index amounts) next_year n m e (omega arith)) (good_before n m (omega arith) e)
+
   module _ (n : ℕ) (good : good_amounts index amounts n ≡ true) (k : ℕ) (h : k < n) where
+    here : year_good k ≡ true
+    here = each_of year_good (good_amounts index amounts) next_year n k good h
+
     pub index_good : good_index (get_or index k 0) ≡ true
-    index_good = and_left (good_index (get_or index k 0)) (good_yearly_amount (get_or amounts k (pos 0))) (good_at n k good h)
+    index_good = and_left (good_index (get_or index k 0)) (good_yearly_amount (get_or amounts k (pos 0))) here
 
     pub amount_small : nat_abs (get_or amounts k (pos 0)) ≤ 1000000000
-    amount_small = leb-true (nat_abs (get_or amounts k (pos 0))) 1000000000 (and_right (good_index (get_or index k 0)) (good_yearly_amount (get_or amounts k (pos 0))) (good_at n k good h))
+    amount_small = leb-true (nat_abs (get_or amounts k (pos 0))) 1000000000 (and_right (good_index (get_or index k 0)) (good_yearly_amount (get_or amounts k (pos 0))) here)
 
 -- what a good index says
 pub index_low : (i : ℕ) → good_index i ≡ true → 5000 ≤ i
@@ -66,21 +84,26 @@ index_high i e = leb-true i 50000 (and_right (leb 5000 i) (leb i 50000) e)
 
 -- ---- not negative
 module _ (amounts : List ℤ) where
-  pub positive_none : (n : ℕ) → n ≡ 0 → not_negative amounts n ≡ true
+  positive : ℕ → Bool
+  positive k = non_neg (get_or amounts k (pos 0))
+
+  next_amount : (n : ℕ) → not_negative amounts (suc n) ≡ (positive n && not_negative amounts n)
+  unfolding not_negative positive
+  next_amount n = refl
+
+  sign : (k : ℕ) → positive k ≡ not (lt_z (get_or amounts k (pos 0)) (pos 0))
+  unfolding positive
+  sign k = non_neg_is (get_or amounts k (pos 0))
+
+  pub none_negative : not_negative amounts 0 ≡ true
   unfolding not_negative
-  positive_none n e = rw e
+  none_negative = refl
 
-  positive_last : (n : ℕ) → (n ≡ 0 → ⊥) → not_negative amounts n ≡ (non_neg (get_or amounts (n - 1) (pos 0)) && not_negative amounts (n - 1))
-  unfolding not_negative
-  positive_last zero f = absurd (f refl)
-  positive_last (suc n) f = let e : suc n - 1 ≡ n = omega arith in rw e
+  pub more_positive : (k : ℕ) → not_negative amounts k ≡ true → lt_z (get_or amounts k (pos 0)) (pos 0) ≡ false → not_negative amounts (k + 1) ≡ true
+  more_positive k e here = one_more positive (not_negative amounts) next_amount k e (sign k ∙ ap not here)
 
-  module _ (n : ℕ) (some : n ≡ 0 → ⊥) where
-    pub negative : non_neg (get_or amounts (n - 1) (pos 0)) ≡ false → false ≡ not_negative amounts n
-    negative e = sym (positive_last n some ∙ simp e)
-
-    pub positive_on : non_neg (get_or amounts (n - 1) (pos 0)) ≡ true → not_negative amounts (n - 1) ≡ not_negative amounts n
-    positive_on e = sym (positive_last n some ∙ simp e)
+  pub negative_at : (n k : ℕ) → k < n → lt_z (get_or amounts k (pos 0)) (pos 0) ≡ true → false ≡ not_negative amounts n
+  negative_at n k h e = one_fails positive (not_negative amounts) next_amount n k h (sign k ∙ ap not e)
 
 -- ---- how many years there are
 pub record CountSays (n : ℕ) : Type 0 where

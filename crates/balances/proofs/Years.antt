@@ -13,10 +13,9 @@ use borrow.Author.Tests.{leb-true}
 use Rattle.lists.proofs.Tests.{and_left, and_right}
 use Rattle.money.specs.Rounding.{scaled_of}
 use Rattle.money.proofs.Nearest.{scaled_is, scaled_small}
-use Rattle.balances.specs.declared.carrying.Balance.{Balance}
-use Rattle.balances.specs.declared.carrying.Balance.TheVariants.{Is, Over}
+use Rattle.std.specs.Prelude.{Option, Some, None}
 use Rattle.balances.specs.Balance.{carry_of, balance_after, most_balance, later_within, good_amounts}
-use Rattle.balances.specs.Steps.{carried_of, balance_of}
+use Rattle.balances.specs.Steps.{carried_of}
 use Rattle.balances.proofs.Ranges.{amount_small}
 
 -- ---- one carry
@@ -42,11 +41,11 @@ module _ (index : List ℕ) (amounts : List ℤ) where
   unfolding balance_after
   after_next at = rw add-one
 
-  pub carried_done : (at left : ℕ) → left ≡ 0 → Is (balance_after index amounts at) ≡ carried_of index amounts at left
+  pub carried_done : (at left : ℕ) → left ≡ 0 → Some (balance_after index amounts at) ≡ carried_of index amounts at left
   unfolding later_within
   carried_done at left e = let n : at + 0 ≡ at = omega arith in rw (e, n)
 
-  pub carried_on : (b : Balance) (at left : ℕ) → (left ≡ 0 → ⊥) → leb (nat_abs (balance_after index amounts (at + 1))) most_balance ≡ true
+  pub carried_on : (b : Option ℤ) (at left : ℕ) → (left ≡ 0 → ⊥) → leb (nat_abs (balance_after index amounts (at + 1))) most_balance ≡ true
       → b ≡ carried_of index amounts (at + 1) (left - 1) → b ≡ carried_of index amounts at left
   unfolding later_within
   carried_on b at zero f e g = absurd (f refl)
@@ -55,7 +54,7 @@ module _ (index : List ℕ) (amounts : List ℤ) where
       let on : at + 1 + k ≡ at + suc k = omega arith in
       g ∙ rw (e, less, on)
 
-  pub carried_over : (at left : ℕ) → (left ≡ 0 → ⊥) → leb (nat_abs (balance_after index amounts (at + 1))) most_balance ≡ false → Over ≡ carried_of index amounts at left
+  pub carried_over : (at left : ℕ) → (left ≡ 0 → ⊥) → leb (nat_abs (balance_after index amounts (at + 1))) most_balance ≡ false → None ≡ carried_of index amounts at left
   unfolding later_within
   carried_over at zero f e = absurd (f refl)
   carried_over at (suc k) f e = rw e
@@ -74,7 +73,3 @@ module _ (index : List ℕ) (amounts : List ℤ) where
   pub years_small : (n : ℕ) → 1 ≤ n → good_amounts index amounts n ≡ true → later_within index amounts 0 (n - 1) ≡ true → nat_abs (balance_after index amounts (n - 1)) ≤ most_balance
   years_small n some good e =
       rw (zero-add (n - 1)) at (later_small 0 (n - 1) (rw starts (omega (arith, amount_small index amounts n good 0 some))) e)
-
-  -- carried from the first year on it is the balance of all the years
-  pub from_first : (n : ℕ) → carried_of index amounts 0 (n - 1) ≡ balance_of index amounts n
-  from_first n = rw zero-add

@@ -1,12 +1,11 @@
 -- The assessment: rules 8.2 to 8.4. Over the first n of five years; that of a whole period has all five.
-use Rattle.std.specs.Prelude.{Bool, true, cond, not, ◌&&◌, List, [], ◌∷◌, ◌≡◌, ℕ, zero, suc, ◌-◌, get_or, ℤ, pos, ◌-ℤ◌}
+use Rattle.std.specs.Prelude.{Bool, true, cond, not, ◌&&◌, List, [], ◌∷◌, ◌≡◌, ℕ, zero, suc, ◌-◌, get_or, ℤ, pos, ◌-ℤ◌, Result}
 use Rattle.std.specs.Int.Signed.{lt_z, non_neg}
-use Rattle.refusals.specs.Refusals.{Rows, accepted, refusal_number, first_applicable}
+use Rattle.refusals.specs.Refusals.{Rows, accepted, first_applicable, answer_number, given_or}
+use Rattle.refusals.specs.declared.Refusal.{Refusal}
 use Rattle.refusals.specs.declared.Refusal.TheVariants.{BadYear, TooLarge, FloorAboveCap}
 use Rattle.balances.specs.declared.assessing.Yearly.{Yearly}
 use Rattle.balances.specs.declared.assessing.Figures.{Figures}
-use Rattle.balances.specs.declared.assessing.Assessment.{Assessment}
-use Rattle.balances.specs.declared.assessing.Assessment.TheVariants.{Found, Refused}
 use Rattle.balances.specs.Balance.{period_years, good_count, balance_after, later_within, good_amounts}
 
 -- ---- rule 8.4: amounts and indices in range, no cap and no floor negative; of the first n years
@@ -78,18 +77,10 @@ assess_rows y = assess_rows_of y period_years
 abbrev pub assess_given : Yearly → Figures
 assess_given y = assess_given_of y period_years
 
-abbrev pub assess_number : Assessment → ℕ
-assess_number (Found figures) = 0
-assess_number (Refused why) = refusal_number why
-
-abbrev pub assess_figures : Assessment → Figures
-assess_figures (Found figures) = figures
-assess_figures (Refused why) = no_figures
-
 -- what `assess_years` promises of its result
-abbrev pub YearsGives : Yearly → ℕ → Assessment → Type 0
-YearsGives y n r = (assess_number r ≡ first_applicable (assess_rows_of y n)) × (assess_figures r ≡ assess_given_of y n)
+abbrev pub YearsGives : Yearly → ℕ → Result Figures Refusal → Type 0
+YearsGives y n r = (answer_number r ≡ first_applicable (assess_rows_of y n)) × (given_or no_figures r ≡ assess_given_of y n)
 
 -- what `assess` promises of its result: the years of a whole period
-abbrev pub AssessGives : Yearly → Assessment → Type 0
-AssessGives y r = (assess_number r ≡ first_applicable (assess_rows y)) × (assess_figures r ≡ assess_given y)
+abbrev pub AssessGives : Yearly → Result Figures Refusal → Type 0
+AssessGives y r = (answer_number r ≡ first_applicable (assess_rows y)) × (given_or no_figures r ≡ assess_given y)

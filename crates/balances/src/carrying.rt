@@ -1,21 +1,13 @@
 // A balance carried over the years, the same for revenue, cap, floor and within-period adjustments.
-ghost use Rattle.std.specs.Prelude.{◌≡◌, true, ◌+◌, ◌≤◌, ◌<◌, nat_abs, get_or};
-ghost use Rattle.balances.specs.Balance.{balance_after, carry_of, good_amounts, good_index, most_balance, period_years};
+ghost use Rattle.std.specs.Prelude.{◌≡◌, true, ◌+◌, ◌≤◌, ◌<◌, nat_abs};
+ghost use Rattle.balances.specs.Balance.{balance_after, carry_of, good_amounts, most_balance, period_years};
 ghost use Rattle.balances.specs.Steps.{balance_of, carried_of};
 
 use super::assessing::Yearly;
 use money::{plus, scaled, within};
 
-// A balance, or none: above 10^10 in magnitude after some year.
-#[derive(Clone, Copy)]
-pub(crate) enum Balance {
-    Is(i64),
-    Over,
-}
-
-impl Balance {
-    pub(crate) const MOST: u64 = 10_000_000_000;
-}
+// The most that a balance has in magnitude.
+const MOST_BALANCE: u64 = 10_000_000_000;
 
 // A balance carried from one year's index to the next one's.
 fn carry(balance: i64, before: u32, now: u32) -> i64
@@ -25,27 +17,30 @@ fn carry(balance: i64, before: u32, now: u32) -> i64
     scaled(balance, 10_388 * now, 10_000 * before)
 }
 
-// The balance after the year `at`, carried to the next year.
-fn brought_on(index: [u32; Yearly::YEARS], at: usize, balance: i64) -> i64
+// The balance after the year past `at`, from that after the year `at`.
+fn next_balance(
+    index: [u32; Yearly::YEARS],
+    amounts: [i64; Yearly::YEARS],
+    at: usize,
+    balance: i64,
+) -> i64
     requires { (at + 1 < period_years)
+        × (good_amounts index amounts (at + 2) ≡ true)
         × (nat_abs balance ≤ most_balance)
-        × (good_index (get_or index at 0) ≡ true)
-        × (good_index (get_or index (at + 1) 0) ≡ true) }
-    ensures { (result ≡ carry_of balance (get_or index at 0) (get_or index (at + 1) 0)) × (nat_abs result ≤ 103880000000) }
+        × (balance ≡ balance_after index amounts at) }
+    ensures { result ≡ balance_after index amounts (at + 1) }
 {
-    let before = index[at];
-    let now = index[at + 1];
-    carry(balance, before, now)
+    plus(carry(balance, index[at], index[at + 1]), amounts[at + 1])
 }
 
-// The balance after the years left, from that after the year `at`.
+// The balance after the years left, from that after the year `at`; none where one of them is above the limit.
 fn carried(
     index: [u32; Yearly::YEARS],
     amounts: [i64; Yearly::YEARS],
     at: usize,
     balance: i64,
     left: usize,
-) -> Balance
+) -> Option<i64>
     requires { (at + left < period_years)
         × (good_amounts index amounts (at + left + 1) ≡ true)
         × (nat_abs balance ≤ most_balance)
@@ -53,16 +48,13 @@ fn carried(
     ensures { result ≡ carried_of index amounts at left }
 {
     if left == 0 {
-        return Balance::Is(balance);
+        return Some(balance);
     }
-    let brought = brought_on(index, at, balance);
-    let amount = amounts[at + 1];
-    let next = plus(brought, amount);
-    if within(next, Balance::MOST) {
-        carried(index, amounts, at + 1, next, left - 1)
-    } else {
-        Balance::Over
+    let next = next_balance(index, amounts, at, balance);
+    if !within(next, MOST_BALANCE) {
+        return None;
     }
+    carried(index, amounts, at + 1, next, left - 1)
 }
 
 // The balance of the first n years.
@@ -70,10 +62,9 @@ pub(crate) fn balance_of(
     index: [u32; Yearly::YEARS],
     amounts: [i64; Yearly::YEARS],
     n: usize,
-) -> Balance
+) -> Option<i64>
     requires { (1 ≤ n) × (n ≤ period_years) × (good_amounts index amounts n ≡ true) }
     ensures { result ≡ balance_of index amounts n }
 {
-    let first = amounts[0];
-    carried(index, amounts, 0, first, n - 1)
+    carried(index, amounts, 0, amounts[0], n - 1)
 }

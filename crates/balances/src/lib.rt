@@ -4,4 +4,4 @@
 mod assessing;
 mod carrying;
 
-pub use assessing::{Assessment, Figures, Yearly, assess, assess_years};
+pub use assessing::{Figures, Yearly, assess, assess_years};

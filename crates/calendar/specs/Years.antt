@@ -1,9 +1,9 @@
 -- The minutes of a Relevant Year, by the calendar: rules 2.1 and 2.2.
-use Rattle.std.specs.Prelude.{Bool, false, cond, not, ◌&&◌, ◌||◌, [], ◌∷◌, ◌≡◌, ℕ, zero, suc, ◌+◌, ◌-◌, ◌*◌, ◌%◌, eqb, leb}
-use Rattle.refusals.specs.Refusals.{Rows, accepted, refusal_number, first_applicable}
+use Rattle.std.specs.Prelude.{Bool, false, cond, not, ◌&&◌, ◌||◌, [], ◌∷◌, ◌≡◌, ℕ, zero, suc, ◌+◌, ◌-◌, ◌*◌, ◌%◌, eqb, leb, Result}
+use Rattle.refusals.specs.Refusals.{Rows, accepted, first_applicable, answer_number, given_or}
+use Rattle.refusals.specs.declared.Refusal.{Refusal}
 use Rattle.refusals.specs.declared.Refusal.TheVariants.{BadYear}
 use Rattle.calendar.specs.declared.YearMinutes.{YearMinutes}
-use Rattle.calendar.specs.declared.YearMinutes.TheVariants.{Span, Refused}
 
 -- a leap year: 4 divides it, and 100 does not, unless 400 does
 abbrev pub is_leap : ℕ → Bool
@@ -47,26 +47,16 @@ good_year_number year = leb 1 year && leb year last_year
 abbrev pub minutes_rows : ℕ → Rows
 minutes_rows year = (BadYear, not (good_year_number year)) ∷ []
 
-abbrev pub first_given : ℕ → ℕ
-first_given year = cond (accepted (minutes_rows year)) (year_start year) 0
+-- what is given where no row applies, and beside a refusal
+abbrev pub minutes_of : ℕ → ℕ → YearMinutes
+minutes_of year regime_end = record { first = year_start year; end = year_end year regime_end }
 
-abbrev pub end_given : ℕ → ℕ → ℕ
-end_given year regime_end = cond (accepted (minutes_rows year)) (year_end year regime_end) 0
+abbrev pub no_minutes : YearMinutes
+no_minutes = record { first = 0; end = 0 }
 
--- the number and the figures of each case of the answer
-abbrev pub minutes_number : YearMinutes → ℕ
-minutes_number (Span first end) = 0
-minutes_number (Refused why) = refusal_number why
-
-abbrev pub first_figure : YearMinutes → ℕ
-first_figure (Span first end) = first
-first_figure (Refused why) = 0
-
-abbrev pub end_figure : YearMinutes → ℕ
-end_figure (Span first end) = end
-end_figure (Refused why) = 0
+abbrev pub minutes_given : ℕ → ℕ → YearMinutes
+minutes_given year regime_end = cond (accepted (minutes_rows year)) (minutes_of year regime_end) no_minutes
 
 -- what `year_minutes` promises of its result
-abbrev pub MinutesGives : ℕ → ℕ → YearMinutes → Type 0
-MinutesGives year regime_end r =
-    (minutes_number r ≡ first_applicable (minutes_rows year)) × (first_figure r ≡ first_given year) × (end_figure r ≡ end_given year regime_end)
+abbrev pub MinutesGives : ℕ → ℕ → Result YearMinutes Refusal → Type 0
+MinutesGives year regime_end r = (answer_number r ≡ first_applicable (minutes_rows year)) × (given_or no_minutes r ≡ minutes_given year regime_end)

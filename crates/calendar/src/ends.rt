@@ -8,11 +8,9 @@ use super::{FIRST_YEAR, LAST_YEAR, next_start};
 pub fn is_year_end(minute: u32, regime_end: u32) -> bool
     ensures { result ≡ is_year_end regime_end minute }
 {
-    let mut start: u32 = 0;
-    let mut passing = FIRST_YEAR;
-    while passing < LAST_YEAR {
+    let mut start = 0;
+    for passing in FIRST_YEAR..LAST_YEAR {
         start = next_start(start, passing);
-        passing += 1;
         if minute == start {
             return true;
         }

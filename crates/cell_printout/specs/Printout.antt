@@ -1,14 +1,13 @@
 -- The line of a workbook's cell, in ASCII, or why there is none: rule 19.9.
-use Rattle.std.specs.Prelude.{Bool, true, false, cond, not, ◌&&◌, ◌||◌, List, [], ◌∷◌, ◌++◌, ◌≡◌, ℕ, ◌/◌, ◌%◌, ◌≤◌, eqb, ltb, ℤ}
-use Rattle.std.proofs.Math.Option.{Option, some, none}
-use Rattle.refusals.specs.Refusals.{Rows, accepted, answer_number, first_applicable}
+use Rattle.std.specs.Prelude.{Bool, true, false, cond, not, ◌&&◌, ◌||◌, List, [], ◌∷◌, ◌++◌, ◌≡◌, ℕ, ◌/◌, ◌%◌, ◌≤◌, eqb, ltb, ℤ, Option, Some, None, is_none, Result}
+use Rattle.refusals.specs.Refusals.{Rows, accepted, answer_number, first_applicable, given_or}
+use Rattle.refusals.specs.declared.Refusal.{Refusal}
 use Rattle.refusals.specs.declared.Refusal.TheVariants.{BadCell}
-use Rattle.refusals.specs.declared.Answer.TheVariants.{Refused}
 use Rattle.cells.specs.declared.Cell.{Cell}
 use Rattle.cells.specs.declared.Cell.TheVariants.{Empty, Number, Day}
-use Rattle.cells.specs.Cells.{amount_in, twice_in, is_none}
+use Rattle.cells.specs.Cells.{amount_in, twice_in}
+use Rattle.text.specs.declared.Text.{Text}
 use Rattle.text.specs.Text.{decimal, room, signed_decimal, text_of}
-use Rattle.cell_printout.specs.declared.CellLine.{CellLine}
 use Rattle.cell_printout.specs.Names.{name_of}
 
 -- ---- the value
@@ -19,8 +18,8 @@ is_empty (Day x) = false
 
 -- an amount in decimal, after a minus where it is negative; an empty cell has an empty value
 abbrev pub amount_text : Cell → Option ℤ → List ℕ
-amount_text c none = []
-amount_text c (some z) = cond (is_empty c) [] (signed_decimal z)
+amount_text c None = []
+amount_text c (Some z) = cond (is_empty c) [] (signed_decimal z)
 
 -- `.5`
 abbrev pub half_word : List ℕ
@@ -32,8 +31,8 @@ halves_text k = decimal (k / 2) ++ cond (eqb (k % 2) 0) [] half_word
 
 -- a day, of twice it
 abbrev pub day_text : Option ℕ → List ℕ
-day_text none = []
-day_text (some k) = halves_text k
+day_text None = []
+day_text (Some k) = halves_text k
 
 -- the cells from 25 on hold days, those before them amounts
 abbrev pub value_of : ℕ → Cell → List ℕ
@@ -49,8 +48,8 @@ abbrev pub may_stand : ℕ → ℕ → Bool
 may_stand i k = eqb i 27 || eqb (k % 2) 0
 
 abbrev pub good_day : ℕ → Option ℕ → Bool
-good_day i none = false
-good_day i (some k) = may_stand i k
+good_day i None = false
+good_day i (Some k) = may_stand i k
 
 -- an amount in the range of its index, or at 25 to 27 a day from 61 to 73,050; past 27 there is no cell
 unfoldable pub good_cell : ℕ → Cell → Bool
@@ -60,13 +59,9 @@ good_cell i c = cond (ltb i 25) (not (is_none (amount_in i c))) (ltb i 28 && goo
 abbrev pub print_cell_rows : ℕ → Cell → Rows
 print_cell_rows i c = (BadCell, not (good_cell i c)) ∷ []
 
--- the refusal of a cell that is bad
-abbrev pub no_line : CellLine
-no_line = record { answer = Refused BadCell; text = text_of [] }
-
 -- what `print_cell` promises of its result
-abbrev pub PrintCellGives : ℕ → Cell → CellLine → Type 0
+abbrev pub PrintCellGives : ℕ → Cell → Result Text Refusal → Type 0
 PrintCellGives i c r =
-    (answer_number r.answer ≡ first_applicable (print_cell_rows i c))
-    × (r.text ≡ cond (accepted (print_cell_rows i c)) (text_of (cell_line i c)) (text_of []))
-    × (r.text.length ≤ room)
+    (answer_number r ≡ first_applicable (print_cell_rows i c))
+    × (given_or (text_of []) r ≡ cond (accepted (print_cell_rows i c)) (text_of (cell_line i c)) (text_of []))
+    × ((given_or (text_of []) r).length ≤ room)

@@ -4,35 +4,19 @@
 mod names;
 
 ghost use Rattle.std.specs.Prelude.{◌≡◌, cond, [], ◌∷◌, ◌++◌, ◌<◌, ◌≤◌};
-ghost use Rattle.floats.specs.Floats.{halves_found};
 ghost use Rattle.cells.specs.Cells.{twice_in};
 ghost use Rattle.text.specs.Text.{pushed, signed_decimal, text_of};
 ghost use Rattle.cell_printout.specs.Names.{name_of};
-ghost use Rattle.cell_printout.specs.Printout.{halves_text, is_empty, may_stand, no_line, PrintCellGives};
+ghost use Rattle.cell_printout.specs.Printout.{halves_text, is_empty, may_stand, PrintCellGives};
 
 use cells::{Cell, Slot, amount_in};
-use floats::{Halves, Whole, halves_of};
+use floats::halves_of;
 use names::push_name;
-use refusals::{Answer, Refusal};
+use refusals::Refusal;
 use text::{Text, push, push_all, push_decimal, push_signed};
 
-// A line: an empty text beside a refusal.
-#[derive(Clone, Copy)]
-pub struct CellLine {
-    pub answer: Answer,
-    pub text: Text,
-}
-
-fn refused() -> CellLine
-    ensures { result ≡ no_line }
-{
-    CellLine {
-        answer: Answer::Refused(Refusal::BadCell),
-        text: Text::empty(),
-    }
-}
-
 // The name of a cell, and a comma.
+#[tactic(auto, using(text::proofs::Laws::pushes))]
 fn begun(index: usize) -> Text
     requires { index < 28 }
     ensures { result ≡ pushed (text_of []) (name_of index ++ (44 ∷ [])) }
@@ -44,14 +28,11 @@ fn begun(index: usize) -> Text
 fn is_empty(cell: Cell) -> bool
     ensures { result ≡ is_empty cell }
 {
-    match cell {
-        Cell::Empty => true,
-        Cell::Number(_) => false,
-        Cell::Day(_) => false,
-    }
+    matches!(cell, Cell::Empty)
 }
 
 // An amount in decimal, and nothing for an empty cell.
+#[tactic(auto, unfolding(text::specs::Text::pushed))]
 fn push_amount(t: Text, cell: Cell, z: i64) -> Text
     ensures { result ≡ pushed t (cond (is_empty cell) [] (signed_decimal z)) }
 {
@@ -62,6 +43,7 @@ fn push_amount(t: Text, cell: Cell, z: i64) -> Text
 }
 
 // k halves in decimal.
+#[tactic(auto, using(text::proofs::Laws::pushes), unfolding(crate::specs::Printout::halves_text))]
 fn push_halves(t: Text, k: u64) -> Text
     ensures { result ≡ pushed t (halves_text k) }
 {
@@ -73,28 +55,22 @@ fn push_halves(t: Text, k: u64) -> Text
 }
 
 // The line of an amount's cell.
-fn amount_line(index: usize, cell: Cell) -> CellLine
+fn amount_line(index: usize, cell: Cell) -> Result<Text, Refusal>
     requires { index < 25 }
     ensures { PrintCellGives index cell result }
 {
-    let Whole::Is(z) = amount_in(index, cell) else {
-        return refused();
-    };
+    let z = amount_in(index, cell).ok_or(Refusal::BadCell)?;
     let told = push_amount(begun(index), cell, z);
-    CellLine {
-        answer: Answer::Done,
-        text: push(told, b'\n'),
-    }
+    Ok(push(told, b'\n'))
 }
 
 // Twice the day that a cell holds.
-fn halves_in(cell: Cell) -> Halves
-    ensures { halves_found result ≡ twice_in cell }
+fn halves_in(cell: Cell) -> Option<u64>
+    ensures { result ≡ twice_in cell }
 {
     match cell {
-        Cell::Empty => Halves::No,
-        Cell::Number(_) => Halves::No,
         Cell::Day(x) => halves_of(x),
+        Cell::Empty | Cell::Number(_) => None,
     }
 }
 
@@ -106,29 +82,24 @@ fn may_stand(index: usize, k: u64) -> bool
 }
 
 // The line of a day's cell.
-fn day_line(index: usize, cell: Cell) -> CellLine
+fn day_line(index: usize, cell: Cell) -> Result<Text, Refusal>
     requires { (25 ≤ index) × (index < 28) }
     ensures { PrintCellGives index cell result }
 {
-    let Halves::Are(k) = halves_in(cell) else {
-        return refused();
-    };
+    let k = halves_in(cell).ok_or(Refusal::BadCell)?;
     if !may_stand(index, k) {
-        return refused();
+        return Err(Refusal::BadCell);
     }
     let told = push_halves(begun(index), k);
-    CellLine {
-        answer: Answer::Done,
-        text: push(told, b'\n'),
-    }
+    Ok(push(told, b'\n'))
 }
 
 // A cell as a line, as `cap 3,250000000` and a newline; past index 27, or where the cell is bad by itself, it is 18.
-pub fn print_cell(index: usize, cell: Cell) -> CellLine
+pub fn print_cell(index: usize, cell: Cell) -> Result<Text, Refusal>
     ensures { PrintCellGives index cell result }
 {
     if Slot::CELLS <= index {
-        return refused();
+        return Err(Refusal::BadCell);
     }
     if index < Slot::AMOUNTS {
         return amount_line(index, cell);

@@ -1,6 +1,5 @@
 -- A cell by itself, at its index: rules 19.4 to 19.6.
-use Rattle.std.specs.Prelude.{Bool, true, false, cond, not, ◌&&◌, ◌||◌, ℕ, ◌%◌, eqb, leb, ltb, ℤ, pos, nat_abs, Float}
-use Rattle.std.proofs.Math.Option.{Option, some, none}
+use Rattle.std.specs.Prelude.{Bool, false, cond, not, ◌&&◌, ◌||◌, ℕ, ◌%◌, eqb, leb, ltb, ℤ, pos, nat_abs, Float, Option, Some, None}
 use Rattle.std.specs.Int.Signed.{non_neg}
 use Rattle.std.specs.Float.{fin, binary64}
 use Rattle.std.specs.Float.Ieee.{of_int}
@@ -43,31 +42,27 @@ empty_slot = slot_of Empty
 
 -- ---- rule 19.6: a cell as an amount
 abbrev pub ranged : ℕ → Option ℤ → Option ℤ
-ranged i none = none
-ranged i (some z) = cond (good_amount i z) (some z) none
+ranged i None = None
+ranged i (Some z) = cond (good_amount i z) (Some z) None
 
 abbrev pub amount_in : ℕ → Cell → Option ℤ
-amount_in i Empty = cond (is_within i) (some (pos 0)) none
+amount_in i Empty = cond (is_within i) (Some (pos 0)) None
 amount_in i (Number x) = ranged i (whole_pounds x)
-amount_in i (Day x) = none
+amount_in i (Day x) = None
 
 -- as a day, and as twice a median
 abbrev pub day_in : Cell → Option ℕ
 day_in (Day x) = whole_day x
-day_in (Number x) = none
-day_in Empty = none
+day_in (Number x) = None
+day_in Empty = None
 
 abbrev pub twice_in : Cell → Option ℕ
 twice_in (Day x) = half_days x
-twice_in (Number x) = none
-twice_in Empty = none
+twice_in (Number x) = None
+twice_in Empty = None
 
 -- the float of a day's cell, 0.0 where it is none
 abbrev pub day_float : Cell → Float
 day_float (Day x) = x
 day_float (Number x) = fin false 0 (pos 0)
 day_float Empty = fin false 0 (pos 0)
-
-abbrev pub is_none : {A : Type 0} → Option A → Bool
-is_none none = true
-is_none (some x) = false

@@ -2,14 +2,13 @@
 #![tactic(auto)]
 
 ghost use Rattle.std.specs.Prelude.{◌≡◌};
-ghost use Rattle.floats.specs.Floats.{whole_found};
-ghost use Rattle.cells.specs.Cells.{amount_in, cell_of, good_amount, is_level, is_within, most_at, ranged};
+ghost use Rattle.cells.specs.Cells.{amount_in, cell_of, good_amount, is_level, is_within, most_at};
 
-use floats::{Whole, float_of, whole_of};
-use money::{is_negative, magnitude, within};
+use floats::{float_of, whole_of};
+use money::{is_negative, within};
 
 // What a cell holds: nothing, a number, or a day that may end in a half.
-#[derive(Clone, Copy)]
+#[derive(Clone, Copy, Debug, PartialEq)]
 pub enum Cell {
     Empty,
     Number(f64),
@@ -17,7 +16,7 @@ pub enum Cell {
 }
 
 // A place of the workbook, which holds a cell.
-#[derive(Clone, Copy)]
+#[derive(Clone, Copy, Debug, PartialEq)]
 pub struct Slot {
     pub cell: Cell,
 }
@@ -49,84 +48,48 @@ fn is_within(i: usize) -> bool
 fn is_level(i: usize) -> bool
     ensures { result ≡ is_level i }
 {
-    if Slot::YEARLY <= i {
-        return false;
-    }
-    i % 4 == 1 || i % 4 == 2
+    i < Slot::YEARLY && (i % 4 == 1 || i % 4 == 2)
 }
 
 // The most that the amount at an index has in magnitude.
+#[tactic(auto, unfolding(crate::specs::Cells::most_at))]
 fn most_at(i: usize) -> u64
     ensures { result ≡ most_at i }
 {
     if i < Slot::YEARLY {
-        return 1_000_000_000;
+        1_000_000_000
+    } else if i < 24 {
+        10_000_000_000
+    } else {
+        30_000_000_000
     }
-    if i < 24 {
-        return 10_000_000_000;
-    }
-    30_000_000_000
 }
 
 // Whether an amount is in the range of its index.
+#[tactic(auto, unfolding(crate::specs::Cells::good_amount))]
 pub fn good_amount(i: usize, z: i64) -> bool
     ensures { result ≡ good_amount i z }
 {
-    if !within(z, most_at(i)) {
-        return false;
-    }
-    if !is_level(i) {
-        return true;
-    }
-    !is_negative(z)
+    within(z, most_at(i)) && (!is_level(i) || !is_negative(z))
 }
 
 // The cell of an amount: a within-period adjustment of 0 is left empty.
 pub fn cell_of(i: usize, z: i64) -> Cell
     ensures { result ≡ cell_of i z }
 {
-    if !is_within(i) {
-        return Cell::Number(float_of(z));
-    }
-    if magnitude(z) == 0 {
+    if is_within(i) && z == 0 {
         return Cell::Empty;
     }
     Cell::Number(float_of(z))
 }
 
-// A whole number that may stand at an index.
-fn in_range(i: usize, found: Whole) -> Whole
-    ensures { whole_found result ≡ ranged i (whole_found found) }
-{
-    match found {
-        Whole::Is(z) => {
-            if good_amount(i, z) {
-                Whole::Is(z)
-            } else {
-                Whole::No
-            }
-        }
-        Whole::No => Whole::No,
-    }
-}
-
-fn empty_at(i: usize) -> Whole
-    ensures { whole_found result ≡ amount_in i Cell.Empty }
-{
-    if is_within(i) {
-        Whole::Is(0)
-    } else {
-        Whole::No
-    }
-}
-
 // The amount that a cell holds at an index, or that it holds none.
-pub fn amount_in(i: usize, cell: Cell) -> Whole
-    ensures { whole_found result ≡ amount_in i cell }
+pub fn amount_in(i: usize, cell: Cell) -> Option<i64>
+    ensures { result ≡ amount_in i cell }
 {
     match cell {
-        Cell::Empty => empty_at(i),
-        Cell::Number(x) => in_range(i, whole_of(x)),
-        Cell::Day(_) => Whole::No,
+        Cell::Empty => is_within(i).then_some(0),
+        Cell::Number(x) => whole_of(x).filter(|z| good_amount(i, *z)),
+        Cell::Day(_) => None,
     }
 }

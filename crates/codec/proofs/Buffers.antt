@@ -1,14 +1,15 @@
 -- Bytes written one run after another into a buffer. Assumes nothing.
 use mathlib.Core.Path.{◌≡◌, refl, sym, ap, ◌∙◌}
 use mathlib.Core.Bool.{true, false, cond}
-use mathlib.Core.List.{List, [], ◌++◌}
+use mathlib.Core.List.{List, [], ◌++◌, append_assoc}
 use Prim.Native.Nat.{ℕ, ◌+◌, ◌≤◌, ◌<◌}
 use native.Mathlib.Nat.{zero-add, add-zero}
 use native.Mathlib.Omega.{arith}
 use borrow.Author.Tests.{le-leb, lt-leb}
 use lib.Dec.{leb}
-use lib.ListN.{length, drop, length-append}
-use lib.Seq.{sets, sets-eq, length-sets}
+use lib.ListN.{length, take, drop, length-append}
+use lib.Seq.{sets, sets-eq, length-sets, drop-drop}
+use borrow.Rule.Slice.PartMut.{put_mid}
 use Rattle.codec.specs.Buffers.{laid, after, Wrote}
 use Rattle.codec.proofs.Numbers.{sets_append}
 
@@ -30,6 +31,12 @@ then {o} {at} {a} {o1} {n1} {b} {o2} {n2} v w = record {
 -- a run from the start: those bytes, and the rest as it was
 pub front : {o a o' : List ℕ} {n : ℕ} → Wrote o 0 a o' n → length a ≤ length o → o' ≡ a ++ drop (length a) o
 front {o} {a} w h = w.is ∙ sets-eq a o 0 (rw (zero-add (length a)) h) ∙ rw (zero-add (length a))
+
+-- a part of the buffer written over
+pub part_is : (o bs : List ℕ) (at n : ℕ) → length bs ≡ n → at + n ≤ length o → put_mid at n o bs ≡ sets o at bs
+part_is o bs at n e h =
+    let d : drop n (drop at o) ≡ drop (at + length bs) o = rw e (drop-drop n at o) in
+    sym (sets-eq bs o at (rw e h) ∙ append_assoc (take at o) bs (drop (at + length bs) o) ∙ ap (λ (t : List ℕ). take at o ++ (bs ++ t)) (sym d))
 
 -- ---- where there is room the bytes are written
 pub laid_room : (o : List ℕ) (at : ℕ) (bs : List ℕ) → at + length bs ≤ length o → (laid o at bs ≡ sets o at bs) × (after o at bs ≡ at + length bs)

@@ -3,7 +3,7 @@
 use mathlib.Core.Path.{◌≡◌, refl, sym, ap, subst, ◌∙◌}
 use mathlib.Core.Bool.{true}
 use mathlib.Core.List.{List, [], ◌∷◌, ◌++◌, append_assoc, append-nil, append_cancel_right}
-use mathlib.Core.Option.{Option, some, none}
+use Rattle.std.specs.Prelude.{Option, Some, None}
 use mathlib.Core.Logic.{◌⊎◌, inl, inr, ⊎_elim}
 use Prim.Native.Nat.{ℕ, zero, suc, ◌≤◌, ◌<◌}
 use native.Mathlib.Nat.{le_refl}
@@ -26,7 +26,7 @@ use Rattle.codec.proofs.Places.{rest_of, moved, Whole, SameField, Begun, Placed,
 -- a whole field has bytes
 some_bytes : (n : ℕ) (bs : List ℕ) → is_whole (take n bs) ≡ true → 0 < n
 unfolding is_whole
-some_bytes zero bs h = absurd (let z : ◌≡◌ {A = ℕ} 0 1 = cc in omega arith)
+some_bytes zero bs h = cc
 some_bytes (suc n) bs h = omega arith
 
 module _ {A : Type 0} (f : List A → Item A) (rule : List A → A → ℕ) (l : (before : List A) → ItemLaws (f before)) where
@@ -38,7 +38,7 @@ module _ {A : Type 0} (f : List A → Item A) (rule : List A → A → ℕ) (l :
   step n before bs o = more before bs (λ a. ruled bs (rule before a) (onward n before bs a)) o
 
   -- fewer bytes are left behind a field
-  pub shorter : (before : List A) (bs : List ℕ) (a : A) → (f before).look bs ≡ some a → length (drop ((f before).size a) bs) < length bs
+  pub shorter : (before : List A) (bs : List ℕ) (a : A) → (f before).look bs ≡ Some a → length (drop ((f before).size a) bs) < length bs
   shorter before bs a e =
       let t = (l before).taken bs a e in
       omega (arith, some_bytes ((f before).size a) bs t.0, t.1, length-drop ((f before).size a) bs)
@@ -57,7 +57,7 @@ module _ {A : Type 0} (f : List A → Item A) (rule : List A → A → ℕ) (l :
   none_passed n before r h =
       record { new = []; few = omega arith; fine = refl; keep = refl; is = refl; all_is = λ all rest e. h all rest e ∙ sym (append-nil before) }
 
-  one_passed : (n : ℕ) (before : List A) (bs : List ℕ) (x : A) → Bytes bs → (f before).look bs ≡ some x
+  one_passed : (n : ℕ) (before : List A) (bs : List ℕ) (x : A) → Bytes bs → (f before).look bs ≡ Some x
       → Passed n (before ++ (x ∷ [])) (drop ((f before).size x) bs) (onward n before bs x) → (k : ℕ) → rule before x ≡ k → Passed (suc n) before bs (ruled bs k (onward n before bs x))
   unfolding texts all_fine all_keep
   one_passed n before bs x b e i (suc k) h = none_passed (suc n) before (stopped (suc k) bs) (λ all rest h. cc)
@@ -74,8 +74,8 @@ module _ {A : Type 0} (f : List A → Item A) (rule : List A → A → ℕ) (l :
 
   step_passed : (n : ℕ) (before : List A) (bs : List ℕ) → Bytes bs → ((x : A) → Passed n (before ++ (x ∷ [])) (drop ((f before).size x) bs) (onward n before bs x))
       → (o : Option A) → (f before).look bs ≡ o → Passed (suc n) before bs (step n before bs o)
-  step_passed n before bs b ih none e = none_passed (suc n) before (got before bs) (λ all rest h. cc)
-  step_passed n before bs b ih (some x) e = one_passed n before bs x b e (ih x) (rule before x) refl
+  step_passed n before bs b ih None e = none_passed (suc n) before (got before bs) (λ all rest h. cc)
+  step_passed n before bs b ih (Some x) e = one_passed n before bs x b e (ih x) (rule before x) refl
 
   passed : (n : ℕ) (before : List A) (bs : List ℕ) → Bytes bs → Passed n before bs (scan_by f rule n before bs)
   unfolding scan_by
@@ -84,15 +84,15 @@ module _ {A : Type 0} (f : List A → Item A) (rule : List A → A → ℕ) (l :
       step_passed n before bs b (λ x. passed n (before ++ (x ∷ [])) (drop ((f before).size x) bs) (bytes_drop ((f before).size x) bs b)) ((f before).look bs) refl
 
   -- ---- whole fields
-  one_fields : (n : ℕ) (before : List A) (bs : List ℕ) (x : A) → (f before).look bs ≡ some x → Whole (drop ((f before).size x) bs) (rest_of (onward n before bs x))
+  one_fields : (n : ℕ) (before : List A) (bs : List ℕ) (x : A) → (f before).look bs ≡ Some x → Whole (drop ((f before).size x) bs) (rest_of (onward n before bs x))
       → (k : ℕ) → Whole bs (rest_of (ruled bs k (onward n before bs x)))
   one_fields n before bs x e w zero = found_more (f before) (l before) bs (rest_of (onward n before bs x)) x e w
   one_fields n before bs x e w (suc k) = no_field bs
 
   step_fields : (n : ℕ) (before : List A) (bs : List ℕ) → ((x : A) → Whole (drop ((f before).size x) bs) (rest_of (onward n before bs x)))
       → (o : Option A) → (f before).look bs ≡ o → Whole bs (rest_of (step n before bs o))
-  step_fields n before bs ih none e = no_field bs
-  step_fields n before bs ih (some x) e = one_fields n before bs x e (ih x) (rule before x)
+  step_fields n before bs ih None e = no_field bs
+  step_fields n before bs ih (Some x) e = one_fields n before bs x e (ih x) (rule before x)
 
   by_fields : (n : ℕ) (before : List A) (bs : List ℕ) → Whole bs (rest_of (scan_by f rule n before bs))
   unfolding scan_by
@@ -107,8 +107,8 @@ module _ {A : Type 0} (f : List A → Item A) (rule : List A → A → ℕ) (l :
   module _ (n m : ℕ) (before : List A) (w r q : List ℕ) (s : SameField r q) (enough : Enough (suc n) (suc m) w r q)
       (ih : (a : A) (u : List ℕ) → Enough n m u r q → rest_of (scan_by f rule n (before ++ (a ∷ [])) (u ++ r)) ≡ r
       → scan_by f rule m (before ++ (a ∷ [])) (u ++ q) ≡ moved (scan_by f rule n (before ++ (a ∷ [])) (u ++ r)) q) where
-    one_alike : (a : A) → (f before).look (w ++ r) ≡ some a → (k : ℕ) → rest_of (ruled (w ++ r) k (onward n before (w ++ r) a)) ≡ r
-        → ((f before).look (w ++ q) ≡ some a) × (ruled (w ++ q) k (onward m before (w ++ q) a) ≡ moved (ruled (w ++ r) k (onward n before (w ++ r) a)) q)
+    one_alike : (a : A) → (f before).look (w ++ r) ≡ Some a → (k : ℕ) → rest_of (ruled (w ++ r) k (onward n before (w ++ r) a)) ≡ r
+        → ((f before).look (w ++ q) ≡ Some a) × (ruled (w ++ q) k (onward m before (w ++ q) a) ≡ moved (ruled (w ++ r) k (onward n before (w ++ r) a)) q)
     one_alike a e (suc k) h =
         let c : w ≡ [] = append_cancel_right w [] r h in
         let x : w ++ q ≡ q = ap (λ (t : List ℕ). t ++ q) c in
@@ -125,8 +125,8 @@ module _ {A : Type 0} (f : List A → Item A) (rule : List A → A → ℕ) (l :
         (k.0, ap (scan_by f rule m (before ++ (a ∷ []))) k.1 ∙ ih a u g (ap (λ (t : List ℕ). rest_of (scan_by f rule n (before ++ (a ∷ [])) t)) (sym y) ∙ h) ∙ ap (λ (t : List ℕ). moved (scan_by f rule n (before ++ (a ∷ [])) t) q) (sym y))
 
     step_alike : (o : Option A) → (f before).look (w ++ r) ≡ o → rest_of (step n before (w ++ r) o) ≡ r → step m before (w ++ q) ((f before).look (w ++ q)) ≡ moved (step n before (w ++ r) o) q
-    step_alike none e h = let k = none_alike (f before) (l before) w r q s e h in rw k.0 (ap (got before) k.1)
-    step_alike (some a) e h = let k = one_alike a e (rule before a) h in rw k.0 k.1
+    step_alike None e h = let k = none_alike (f before) (l before) w r q s e h in rw k.0 (ap (got before) k.1)
+    step_alike (Some a) e h = let k = one_alike a e (rule before a) h in rw k.0 k.1
 
   no_bytes : (w r q : List ℕ) → SameField r q → length (w ++ r) ≤ 0 → ⊥
   no_bytes w r q s h = no_empty s.first s.after s.whole (empty (s.first ++ s.after) (omega (arith, h, length-append w r, ap length s.is)))
@@ -150,8 +150,8 @@ module _ {A : Type 0} (f : List A → Item A) (rule : List A → A → ℕ) (l :
   -- ---- it stops by no number but one that the rule gives
   module _ (Given : ℕ → Type 0) (gives : (before : List A) (a : A) (k : ℕ) → rule before a ≡ suc k → Given (suc k)) where
     step_numbers : (n : ℕ) (before : List A) (bs : List ℕ) (why : ℕ) (rest : List ℕ) → ((a : A) → onward n before bs a ≡ stopped why rest → Given why) → (o : Option A) → step n before bs o ≡ stopped why rest → Given why
-    step_numbers n before bs why rest ih none e = absurd (let z : ◌≡◌ {A = ℕ} 0 1 = cc in omega arith)
-    step_numbers n before bs why rest ih (some a) e = by (rule before a) refl e
+    step_numbers n before bs why rest ih None e = cc
+    step_numbers n before bs why rest ih (Some a) e = by (rule before a) refl e
       where
         by : (k : ℕ) → rule before a ≡ k → ruled bs k (onward n before bs a) ≡ stopped why rest → Given why
         by zero h e = ih a e
@@ -159,7 +159,7 @@ module _ {A : Type 0} (f : List A → Item A) (rule : List A → A → ℕ) (l :
 
     scan_numbers : (n : ℕ) (before : List A) (bs : List ℕ) (why : ℕ) (rest : List ℕ) → scan_by f rule n before bs ≡ stopped why rest → Given why
     unfolding scan_by
-    scan_numbers zero before bs why rest e = absurd (let z : ◌≡◌ {A = ℕ} 0 1 = cc in omega arith)
+    scan_numbers zero before bs why rest e = cc
     scan_numbers (suc n) before bs why rest e = step_numbers n before bs why rest (λ a. scan_numbers n (before ++ (a ∷ [])) (drop ((f before).size a) bs) why rest) ((f before).look bs) e
 
     pub every_numbers : (bs : List ℕ) (why : ℕ) (rest : List ℕ) → (every f rule).read bs ≡ stopped why rest → Given why
@@ -189,7 +189,7 @@ module _ {A : Type 0} (f : List A → Item A) (rule : List A → A → ℕ) (l :
 
   -- ---- what is written is read back
   module _ (t u : ℕ) (same : (before : List A) → (f before).tag ≡ t) (same-last : (before : List A) → (f before).last ≡ u) where
-    past : (before : List A) (rest : List ℕ) → Over (suc u) rest → (f before).look rest ≡ none
+    past : (before : List A) (rest : List ℕ) → Over (suc u) rest → (f before).look rest ≡ None
     past before rest o = (l before).other rest (subst (λ (k : ℕ). Over (suc k) rest) (sym (same-last before)) o)
 
     by_there : (n : ℕ) (before ys : List A) (rest : List ℕ) → length ys ≤ n → all_fine f before ys ≡ true → all_keep rule before ys ≡ true → Over (suc u) rest
@@ -256,12 +256,12 @@ module _ {A : Type 0} (f : List A → Item A) (l : (before : List A) → ItemLaw
   -- it never stops by a number
   step_got : (n : ℕ) (before : List A) (bs : List ℕ) (k : ℕ) (rest : List ℕ) → ((a : A) → scan_by f no_rule n (before ++ (a ∷ [])) (drop ((f before).size a) bs) ≡ stopped k rest → ⊥)
       → (o : Option A) → step f no_rule l n before bs o ≡ stopped k rest → ⊥
-  step_got n before bs k rest ih none h = let z : ◌≡◌ {A = ℕ} 0 1 = cc in omega arith
-  step_got n before bs k rest ih (some a) h = ih a h
+  step_got n before bs k rest ih None h = cc
+  step_got n before bs k rest ih (Some a) h = ih a h
 
   scan_got : (n : ℕ) (before : List A) (bs : List ℕ) (k : ℕ) (rest : List ℕ) → scan_by f no_rule n before bs ≡ stopped k rest → ⊥
   unfolding scan_by
-  scan_got zero before bs k rest h = let z : ◌≡◌ {A = ℕ} 0 1 = cc in omega arith
+  scan_got zero before bs k rest h = cc
   scan_got (suc n) before bs k rest h = step_got n before bs k rest (λ a. scan_got n (before ++ (a ∷ [])) (drop ((f before).size a) bs) k rest) ((f before).look bs) h
 
   module _ (n : ℕ) where

@@ -4,7 +4,6 @@ use mathlib.Core.Path.{◌≡◌, refl, sym, ap, ◌∙◌}
 use mathlib.Core.Bool.{true}
 use mathlib.Core.List.{List, [], ◌∷◌, ◌++◌, append_assoc, append-nil, append_cancel_left}
 use Prim.Native.Nat.{ℕ}
-use native.Mathlib.Omega.{arith}
 use borrow.Author.Tests.{eqb-true}
 use lib.ListN.{length, take}
 use lib.Seq.{take_at}
@@ -21,8 +20,8 @@ joined_append (f ∷ fs) gs = rw (joined_append fs gs, append_assoc f (joined fs
 -- a whole field has its head
 pub no_empty : (f rest : List ℕ) → is_whole f ≡ true → f ++ rest ≡ [] → ⊥
 unfolding is_whole
-no_empty [] rest h e = let z : ◌≡◌ {A = ℕ} 0 1 = cc in omega arith
-no_empty (x ∷ f) rest h e = let z : ◌≡◌ {A = ℕ} 0 1 = cc in omega arith
+no_empty [] rest h e = cc
+no_empty (x ∷ f) rest h e = cc
 
 -- bytes begin with one whole field at most
 same_first : (f g r q : List ℕ) → is_whole f ≡ true → is_whole g ≡ true → f ++ r ≡ g ++ q → f ≡ g

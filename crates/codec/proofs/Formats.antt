@@ -3,7 +3,7 @@
 use mathlib.Core.Path.{◌≡◌, refl, sym, ap, subst, ◌∙◌}
 use mathlib.Core.Bool.{Bool, true, false, ◌&&◌, ◌||◌}
 use mathlib.Core.List.{List, ◌++◌, append_assoc}
-use mathlib.Core.Option.{Option, some, none}
+use Rattle.std.specs.Prelude.{Option, Some, None}
 use Prim.Native.Nat.{ℕ, suc}
 use native.Mathlib.Omega.{arith}
 use lib.ListN.{drop}
@@ -19,17 +19,17 @@ pub record Lawful {A : Type 0} (c : Codec A) (lo hi : ℕ) : Type 0 where
   pub back : (bs : List ℕ) (a : A) (rest : List ℕ) → Bytes bs → c.read bs ≡ got a rest → (bs ≡ c.write a ++ rest) × (c.ok a ≡ true)
 
 -- a field that is left out stands for the value that it is left out for
-absent_got : {A : Type 0} (d : Option A) (bs : List ℕ) (a : A) (rest : List ℕ) → absent d bs ≡ got a rest → (d ≡ some a) × (bs ≡ rest)
-absent_got (some x) bs a rest h =
+absent_got : {A : Type 0} (d : Option A) (bs : List ℕ) (a : A) (rest : List ℕ) → absent d bs ≡ got a rest → (d ≡ Some a) × (bs ≡ rest)
+absent_got (Some x) bs a rest h =
     let p : x ≡ a = cc in
     let q : bs ≡ rest = cc in
-    (ap some p, q)
-absent_got none bs a rest h = absurd (let z : ◌≡◌ {A = ℕ} 0 1 = cc in omega arith)
+    (ap Some p, q)
+absent_got None bs a rest h = cc
 
 module _ {A : Type 0} (f : Item A) (l : ItemLaws f) where
   need_back : (bs : List ℕ) (o : Option A) → f.look bs ≡ o → (a : A) (rest : List ℕ) → Bytes bs → need f bs o ≡ got a rest → (bs ≡ f.text a ++ rest) × (f.fine a ≡ true)
-  need_back bs none e a rest b h = absurd (let z : ◌≡◌ {A = ℕ} 0 1 = cc in omega arith)
-  need_back bs (some x) e a rest b h =
+  need_back bs None e a rest b h = cc
+  need_back bs (Some x) e a rest b h =
       let p : x ≡ a = cc in
       let q : drop (f.size x) bs ≡ rest = cc in
       rw (← q, ← p) (l.back bs x b e)
@@ -42,7 +42,7 @@ module _ {A : Type 0} (f : Item A) (l : ItemLaws f) where
         back = λ bs a rest b h. need_back bs (f.look bs) refl a rest b h;
       }
 
-  module _ (d : Option A) (is : A → Bool) (is-d : (x : A) → d ≡ some x → is x ≡ true) (d-is : (a : A) → is a ≡ true → d ≡ some a) (not-fine : (a : A) → f.fine a ≡ true → is a ≡ false) where
+  module _ (d : Option A) (is : A → Bool) (is-d : (x : A) → d ≡ Some x → is x ≡ true) (d-is : (a : A) → is a ≡ true → d ≡ Some a) (not-fine : (a : A) → f.fine a ≡ true → is a ≡ false) where
     opt_there : (a : A) (t : Bool) → is a ≡ t → (rest : List ℕ) → (t || f.fine a) ≡ true → Over (suc f.last) rest → or_else f d (unless t (f.text a) ++ rest) (f.look (unless t (f.text a) ++ rest)) ≡ got a rest
     opt_there a true e rest h o = rw (l.other rest o) (ap (λ (x : Option A). absent x rest) (d-is a e))
     opt_there a false e rest h o = rw (l.there a rest h) (ap (got a) (l.after a rest h))
@@ -52,10 +52,10 @@ module _ {A : Type 0} (f : Item A) (l : ItemLaws f) where
     opt_over a false rest o = l.over a rest
 
     opt_back : (bs : List ℕ) (o : Option A) → f.look bs ≡ o → (a : A) (rest : List ℕ) → Bytes bs → or_else f d bs o ≡ got a rest → (bs ≡ unless (is a) (f.text a) ++ rest) × ((is a || f.fine a) ≡ true)
-    opt_back bs none e a rest b h =
+    opt_back bs None e a rest b h =
         let k = absent_got d bs a rest h in
         rw (is-d a k.0) (k.1, refl)
-    opt_back bs (some x) e a rest b h =
+    opt_back bs (Some x) e a rest b h =
         let p : x ≡ a = cc in
         let q : drop (f.size x) bs ≡ rest = cc in
         let k = l.back bs x b e in
@@ -83,7 +83,7 @@ module _ {A B : Type 0} (c : Codec A) (d : A → Codec B) (lo mid hi : ℕ) (lc 
       rw (append_assoc (c.write a) ((d a).write b) rest) (lc.over a ((d a).write b ++ rest) ha ((ld a).over b rest hb o))
 
   both_back : (bs r1 : List ℕ) (x : A) → Bytes bs → (bs ≡ c.write x ++ r1) × (c.ok x ≡ true) → (r : Res B) → (d x).read r1 ≡ r → (p : A × B) (rest : List ℕ) → pair_up x r ≡ got p rest → (bs ≡ (c.write p.0 ++ (d p.0).write p.1) ++ rest) × ((c.ok p.0 && (d p.0).ok p.1) ≡ true)
-  both_back bs r1 x b k (stopped n r2) e p rest h = absurd (let z : ◌≡◌ {A = ℕ} 0 1 = cc in omega arith)
+  both_back bs r1 x b k (stopped n r2) e p rest h = cc
   both_back bs r1 x b k (got y r2) e p rest h =
       let pe : (x, y) ≡ p = cc in
       let q : r2 ≡ rest = cc in
@@ -93,7 +93,7 @@ module _ {A B : Type 0} (c : Codec A) (d : A → Codec B) (lo mid hi : ℕ) (lc 
       (k.0 ∙ ap (λ (n : List ℕ). c.write x ++ n) m.0 ∙ sym (append_assoc (c.write x) ((d x).write y) r2), rw k.1 m.1)
 
   and_back : (bs : List ℕ) → Bytes bs → (r : Res A) → c.read bs ≡ r → (p : A × B) (rest : List ℕ) → and_then d r ≡ got p rest → (bs ≡ (c.write p.0 ++ (d p.0).write p.1) ++ rest) × ((c.ok p.0 && (d p.0).ok p.1) ≡ true)
-  and_back bs b (stopped n r) e p rest h = absurd (let z : ◌≡◌ {A = ℕ} 0 1 = cc in omega arith)
+  and_back bs b (stopped n r) e p rest h = cc
   and_back bs b (got x r1) e p rest h = both_back bs r1 x b (lc.back bs x r1 b e) ((d x).read r1) refl p rest h
 
   pub both_lawful : Lawful (both c d) lo hi

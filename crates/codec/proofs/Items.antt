@@ -2,7 +2,7 @@
 use mathlib.Core.Path.{◌≡◌, refl, sym, ap, ◌∙◌}
 use mathlib.Core.Bool.{Bool, true, false, ◌&&◌}
 use mathlib.Core.List.{List, [], ◌∷◌, ◌++◌, append_assoc}
-use mathlib.Core.Option.{Option, some, none}
+use Rattle.std.specs.Prelude.{Option, Some, None}
 use Prim.Native.Nat.{ℕ, suc, ◌+◌, ◌≤◌, ◌<◌}
 use native.Mathlib.Nat.{le_trans, le_refl}
 use native.Mathlib.Omega.{arith}
@@ -30,13 +30,13 @@ over_le h (t ∷ r) o = le_trans h o
 
 pub record ItemLaws {A : Type 0} (f : Item A) : Type 0 where
   pub after : (a : A) (rest : List ℕ) → f.fine a ≡ true → drop (f.size a) (f.text a ++ rest) ≡ rest
-  pub there : (a : A) (rest : List ℕ) → f.fine a ≡ true → f.look (f.text a ++ rest) ≡ some a
-  pub back : (bs : List ℕ) (a : A) → Bytes bs → f.look bs ≡ some a → (bs ≡ f.text a ++ drop (f.size a) bs) × (f.fine a ≡ true)
+  pub there : (a : A) (rest : List ℕ) → f.fine a ≡ true → f.look (f.text a ++ rest) ≡ Some a
+  pub back : (bs : List ℕ) (a : A) → Bytes bs → f.look bs ≡ Some a → (bs ≡ f.text a ++ drop (f.size a) bs) × (f.fine a ≡ true)
   pub tags : f.tag ≤ f.last
-  pub other : (bs : List ℕ) → Over (suc f.last) bs → f.look bs ≡ none
+  pub other : (bs : List ℕ) → Over (suc f.last) bs → f.look bs ≡ None
   pub over : (a : A) (rest : List ℕ) → Over f.tag (f.text a ++ rest)
   -- a field found is whole
-  pub taken : (bs : List ℕ) (a : A) → f.look bs ≡ some a → (is_whole (take (f.size a) bs) ≡ true) × (f.size a ≤ length bs)
+  pub taken : (bs : List ℕ) (a : A) → f.look bs ≡ Some a → (is_whole (take (f.size a) bs) ≡ true) × (f.size a ≤ length bs)
   -- what follows a whole field does not matter
   pub alike : (w r q : List ℕ) → is_whole w ≡ true → f.look (w ++ r) ≡ f.look (w ++ q)
 
@@ -47,9 +47,9 @@ framed_there tag len p rest h e = rw (eq-eqb tag tag refl, eq-eqb _ len (spelled
 
 framed_back : (tag len : ℕ) (bs : List ℕ) → Bytes bs → framed tag len bs ≡ true → (bs ≡ head tag len ++ drop 3 bs) × (len ≤ length (drop 3 bs))
 unfolding framed head
-framed_back tag len [] b h = absurd (let z : ◌≡◌ {A = ℕ} 0 1 = cc in omega arith)
-framed_back tag len (t ∷ []) b h = absurd (let z : ◌≡◌ {A = ℕ} 0 1 = cc in omega arith)
-framed_back tag len (t ∷ u ∷ []) b h = absurd (let z : ◌≡◌ {A = ℕ} 0 1 = cc in omega arith)
+framed_back tag len [] b h = cc
+framed_back tag len (t ∷ []) b h = cc
+framed_back tag len (t ∷ u ∷ []) b h = cc
 framed_back tag len (t ∷ u ∷ v ∷ r) b h =
     let h1 : (eqb (spelled 0 (u ∷ v ∷ [])) len && leb len (length r)) ≡ true = and_right (eqb t tag) _ h in
     let e0 : t ≡ tag = eqb-true t tag (and_left (eqb t tag) _ h) in
@@ -67,9 +67,9 @@ framed_other tag len (t ∷ u ∷ v ∷ r) o = rw (ne_eqb t tag (omega arith))
 -- what a frame holds is one field
 framed_whole : (tag len : ℕ) (bs : List ℕ) → framed tag len bs ≡ true → (is_whole (take (3 + len) bs) ≡ true) × (3 + len ≤ length bs)
 unfolding framed is_whole
-framed_whole tag len [] h = absurd (let z : ◌≡◌ {A = ℕ} 0 1 = cc in omega arith)
-framed_whole tag len (t ∷ []) h = absurd (let z : ◌≡◌ {A = ℕ} 0 1 = cc in omega arith)
-framed_whole tag len (t ∷ u ∷ []) h = absurd (let z : ◌≡◌ {A = ℕ} 0 1 = cc in omega arith)
+framed_whole tag len [] h = cc
+framed_whole tag len (t ∷ []) h = cc
+framed_whole tag len (t ∷ u ∷ []) h = cc
 framed_whole tag len (t ∷ u ∷ v ∷ r) h =
     let h1 : (eqb (spelled 0 (u ∷ v ∷ [])) len && leb len (length r)) ≡ true = and_right (eqb t tag) _ h in
     let k : len ≤ length r = leb-true len (length r) (and_right (eqb (spelled 0 (u ∷ v ∷ [])) len) _ h1) in
@@ -85,22 +85,22 @@ module _ {A : Type 0} (tag : ℕ) (v : Value A) (short : v.len < 65536) (l : Val
   unfolding field_of
   tagged_after a rest h = drop_at (head tag v.len ++ v.put a) rest (3 + v.len) (rw (length-append, length_head, l.size a h))
 
-  tagged_there : (a : A) (rest : List ℕ) → v.fine a ≡ true → field tag v (field_of tag v a ++ rest) ≡ some a
+  tagged_there : (a : A) (rest : List ℕ) → v.fine a ≡ true → field tag v (field_of tag v a ++ rest) ≡ Some a
   unfolding field_of field
   tagged_there a rest h =
       let e : (head tag v.len ++ v.put a) ++ rest ≡ head tag v.len ++ (v.put a ++ rest) = append_assoc (head tag v.len) (v.put a) rest in
       rw (e, framed_there tag v.len (v.put a) rest short (l.size a h), drop_at (head tag v.len) (v.put a ++ rest) 3 (length_head tag v.len)) (l.there a rest h)
 
-  tagged_back : (bs : List ℕ) (a : A) → Bytes bs → (t : Bool) → framed tag v.len bs ≡ t → when t (v.get (drop 3 bs)) ≡ some a → (bs ≡ field_of tag v a ++ drop (3 + v.len) bs) × (v.fine a ≡ true)
+  tagged_back : (bs : List ℕ) (a : A) → Bytes bs → (t : Bool) → framed tag v.len bs ≡ t → when t (v.get (drop 3 bs)) ≡ Some a → (bs ≡ field_of tag v a ++ drop (3 + v.len) bs) × (v.fine a ≡ true)
   unfolding field_of
-  tagged_back bs a b false e w = absurd (let z : ◌≡◌ {A = ℕ} 0 1 = cc in omega arith)
+  tagged_back bs a b false e w = cc
   tagged_back bs a b true e w =
       let k = framed_back tag v.len bs b e in
       let p = l.back (drop 3 bs) a (bytes_drop 3 bs b) k.1 w in
       let q : drop v.len (drop 3 bs) ≡ drop (3 + v.len) bs = drop-drop v.len 3 bs in
       (k.0 ∙ ap (λ (m : List ℕ). head tag v.len ++ m) (p.0 ∙ ap (λ (m : List ℕ). v.put a ++ m) q) ∙ sym (append_assoc (head tag v.len) (v.put a) (drop (3 + v.len) bs)), p.1)
 
-  tagged_other : (bs : List ℕ) → Over (suc tag) bs → field tag v bs ≡ none
+  tagged_other : (bs : List ℕ) → Over (suc tag) bs → field tag v bs ≡ None
   unfolding field
   tagged_other bs o = rw (framed_other tag v.len bs o)
 
@@ -108,8 +108,8 @@ module _ {A : Type 0} (tag : ℕ) (v : Value A) (short : v.len < 65536) (l : Val
   unfolding field_of head
   tagged_over a rest = le_refl tag
 
-  tagged_taken : (bs : List ℕ) (a : A) (t : Bool) → framed tag v.len bs ≡ t → when t (v.get (drop 3 bs)) ≡ some a → (is_whole (take (3 + v.len) bs) ≡ true) × (3 + v.len ≤ length bs)
-  tagged_taken bs a false e w = absurd (let z : ◌≡◌ {A = ℕ} 0 1 = cc in omega arith)
+  tagged_taken : (bs : List ℕ) (a : A) (t : Bool) → framed tag v.len bs ≡ t → when t (v.get (drop 3 bs)) ≡ Some a → (is_whole (take (3 + v.len) bs) ≡ true) × (3 + v.len ≤ length bs)
+  tagged_taken bs a false e w = cc
   tagged_taken bs a true e w = framed_whole tag v.len bs e
 
   -- the length that the head says is the value's, or it is not and no such field is found

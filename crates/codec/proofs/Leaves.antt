@@ -1,20 +1,17 @@
 -- What a call on a slice answers, where the bytes are there and where not. Assumes nothing.
-use mathlib.Core.Path.{◌≡◌, refl, ap, ◌∙◌}
+use mathlib.Core.Path.{◌≡◌, refl, ◌∙◌}
 use mathlib.Core.Bool.{Bool, true, false, cond, ◌&&◌}
 use mathlib.Core.List.{List, [], ◌++◌}
-use mathlib.Core.Option.{Option, some, none}
+use Rattle.std.specs.Prelude.{None}
 use Prim.Native.Nat.{ℕ, zero, suc, ◌+◌, ◌≤◌, ◌<◌}
 use native.Mathlib.Omega.{arith}
 use borrow.Author.Tests.{le-leb, lt-leb}
 use lib.Dec.{leb}
-use lib.IntN.{ℤ}
 use lib.ListN.{length, take, drop}
 use Rattle.codec.specs.Numbers.{spelled, bytes_of}
 use Rattle.codec.specs.Fields.{head, framed}
 use Rattle.codec.specs.Format.{num, int, field}
-use Rattle.codec.specs.Leaves.{number_at, number_bytes, number_field_bytes, number_found, amount_found, number_field, amount_at}
-use Rattle.codec.specs.declared.FoundNumber.TheVariants as N
-use Rattle.codec.specs.declared.FoundAmount.TheVariants as A
+use Rattle.codec.specs.Leaves.{number_at, number_bytes, number_field_bytes, number_field, amount_at}
 use Rattle.codec.proofs.Positions.{field_is, field_not}
 
 pub number_there : (n : ℕ) (bs : List ℕ) → n ≤ 8 → n ≤ length bs → number_at n bs ≡ spelled 0 (take n bs)
@@ -33,18 +30,18 @@ pub field_bytes_wide : (tag n v : ℕ) → 8 < n → number_field_bytes tag n v 
 unfolding number_field_bytes
 field_bytes_wide tag n v h = rw (lt-leb n 8 h)
 
-pub field_there : (tag n lo hi : ℕ) (bs : List ℕ) → n ≤ 8 → number_field tag n lo hi bs ≡ number_found (field tag (num n lo hi) bs)
+pub field_there : (tag n lo hi : ℕ) (bs : List ℕ) → n ≤ 8 → number_field tag n lo hi bs ≡ field tag (num n lo hi) bs
 unfolding number_field
 field_there tag n lo hi bs h = rw (le-leb n 8 h)
 
 -- a whole field answers what its value is, and no field nothing
-pub value_there : (tag n lo hi : ℕ) (s : List ℕ) (at : ℕ) → n ≤ 8 → framed tag n (drop at s) ≡ true → number_field tag n lo hi (drop at s) ≡ number_found ((num n lo hi).get (drop (at + 3) s))
-value_there tag n lo hi s at h e = field_there tag n lo hi (drop at s) h ∙ ap number_found (field_is tag (num n lo hi) s at e)
+pub value_there : (tag n lo hi : ℕ) (s : List ℕ) (at : ℕ) → n ≤ 8 → framed tag n (drop at s) ≡ true → number_field tag n lo hi (drop at s) ≡ (num n lo hi).get (drop (at + 3) s)
+value_there tag n lo hi s at h e = field_there tag n lo hi (drop at s) h ∙ field_is tag (num n lo hi) s at e
 
-pub value_not : (tag n lo hi : ℕ) (bs : List ℕ) → n ≤ 8 → framed tag n bs ≡ false → number_field tag n lo hi bs ≡ N.Not
-value_not tag n lo hi bs h e = field_there tag n lo hi bs h ∙ ap number_found (field_not tag (num n lo hi) bs e)
+pub value_not : (tag n lo hi : ℕ) (bs : List ℕ) → n ≤ 8 → framed tag n bs ≡ false → number_field tag n lo hi bs ≡ None
+value_not tag n lo hi bs h e = field_there tag n lo hi bs h ∙ field_not tag (num n lo hi) bs e
 
-pub amount_there : (most : ℕ) (bs : List ℕ) → 8 ≤ length bs → amount_at most bs ≡ amount_found ((int most).get bs)
+pub amount_there : (most : ℕ) (bs : List ℕ) → 8 ≤ length bs → amount_at most bs ≡ (int most).get bs
 unfolding amount_at
 amount_there most bs h = rw (le-leb 8 (length bs) h)
 
@@ -70,27 +67,10 @@ pub bytes_wide : (n v : ℕ) → 8 < n → number_bytes n v ≡ []
 unfolding number_bytes
 bytes_wide n v h = rw (lt-leb n 8 h)
 
-pub field_wide : (tag n lo hi : ℕ) (bs : List ℕ) → 8 < n → number_field tag n lo hi bs ≡ N.Not
+pub field_wide : (tag n lo hi : ℕ) (bs : List ℕ) → 8 < n → number_field tag n lo hi bs ≡ None
 unfolding number_field
 field_wide tag n lo hi bs h = rw (lt-leb n 8 h)
 
-pub amount_short : (most : ℕ) (bs : List ℕ) → length bs < 8 → amount_at most bs ≡ A.Not
+pub amount_short : (most : ℕ) (bs : List ℕ) → length bs < 8 → amount_at most bs ≡ None
 unfolding amount_at
 amount_short most bs h = rw (lt-leb 8 (length bs) h)
-
--- ---- from the answer to what was found
-pub number_is : (o : Option ℕ) (v : ℕ) → N.Is v ≡ number_found o → o ≡ some v
-number_is none v h = absurd (let z : ◌≡◌ {A = ℕ} 0 1 = cc in omega arith)
-number_is (some w) v h = let e : w ≡ v = cc in ap some e
-
-pub number_not : (o : Option ℕ) → N.Not ≡ number_found o → o ≡ none
-number_not none h = refl
-number_not (some w) h = absurd (let z : ◌≡◌ {A = ℕ} 0 1 = cc in omega arith)
-
-pub amount_is : (o : Option ℤ) (v : ℤ) → A.Is v ≡ amount_found o → o ≡ some v
-amount_is none v h = absurd (let z : ◌≡◌ {A = ℕ} 0 1 = cc in omega arith)
-amount_is (some w) v h = let e : w ≡ v = cc in ap some e
-
-pub amount_not : (o : Option ℤ) → A.Not ≡ amount_found o → o ≡ none
-amount_not none h = refl
-amount_not (some w) h = absurd (let z : ◌≡◌ {A = ℕ} 0 1 = cc in omega arith)

@@ -5,7 +5,6 @@ use mathlib.Core.Bool.{Bool, true, false, cond}
 use mathlib.Core.Logic.{◌⊎◌, inl, inr}
 use mathlib.Core.List.{List, [], ◌∷◌, ◌++◌, append_assoc, append-nil}
 use Prim.Native.Nat.{ℕ, ◌+◌, ◌-◌, ◌≤◌, ◌<◌}
-use native.Mathlib.Nat.{not-suc-le-zero}
 use native.Mathlib.Omega.{arith}
 use borrow.Author.Tests.{le-leb, lt-leb}
 use lib.Dec.{leb}
@@ -24,7 +23,7 @@ use Rattle.codec.proofs.Places.{rest_of, moved, SameField, Placed, Numbered}
 
 -- ---- the outcome of a reading
 whole_not : {M : Type 0} (why place : ℕ) (v : M) → refused why place ≡ whole v → ⊥
-whole_not why place v e = let z : ◌≡◌ {A = ℕ} 0 1 = cc in not-suc-le-zero {n = 0} (omega arith)
+whole_not why place v e = cc
 
 pub same_whole : {M : Type 0} (v w : M) → whole v ≡ whole w → v ≡ w
 same_whole v w e = cc
@@ -140,7 +139,7 @@ module _ {M : Type 0} (Says : M → List ℕ → Type 0) where
 -- a reading that stops before a field does so whatever follows that field
 moved_not : {A : Type 0} (first other : List ℕ) → is_whole first ≡ true → (r : Res A) (a : A) → moved r (first ++ other) ≡ got a [] → ⊥
 moved_not first other h (got q rest) a e = no_empty first other h cc
-moved_not first other h (stopped n rest) a e = let z : ◌≡◌ {A = ℕ} 0 1 = cc in not-suc-le-zero {n = 0} (omega arith)
+moved_not first other h (stopped n rest) a e = cc
 
 -- ---- reading and writing agree
 module _ {A M : Type 0} {c : Codec A} {from_parts : A → M} {parts : M → A} {Says : M → List ℕ → Type 0} {lo hi : ℕ} (l : Lawful c lo hi) (m : Messages c from_parts parts Says) where

@@ -1,14 +1,15 @@
 -- The laws of `spelled` and `bytes_of`: each undoes the other, at every width.
 use mathlib.Core.Path.{◌≡◌, refl, sym, ap, ◌∙◌}
 use Prim.Native.Nat.{ℕ, zero, suc, ◌+◌, ◌-◌, ◌*◌, ◌/◌, ◌%◌, ◌^◌, ◌<◌, ◌≤◌}
-use native.Mathlib.Nat.{add-zero, zero-add, pow-succ', pow-le-pow_right, lt_of_lt_of_le}
+use native.Mathlib.Nat.{add-zero, zero-add, pow-succ', pow-le-pow_right, lt_of_lt_of_le, div-div-eq-div-mul}
 use native.Mathlib.Numerals.{add-one}
 use lib.Dec.{lit≤, leb, eqb}
 use mathlib.Core.Bool.{false, ◌&&◌}
 use native.Mathlib.Omega.{arith}
 use mathlib.Core.List.{List, [], ◌∷◌, ◌++◌, append_assoc, append-nil}
 use lib.ListN.{length, get_or, take, drop, set, length-append, length-drop}
-use lib.Seq.{take-suc, get_or-drop, drop-drop, set_comm, sets}
+use lib.Seq.{take-suc, take-length, get_or-drop, drop-drop, sets}
+use Rattle.std.specs.Int.{byte_at, bytes_high_first}
 use Rattle.codec.specs.Numbers.{spelled, bytes_of}
 use Rattle.codec.specs.Theorems.{Bytes}
 use Rattle.codec.specs.Fields.{framed}
@@ -51,11 +52,9 @@ grows i v x h k = rw (add-one i, pow-succ' 256 i) (omega arith)
 pub fits_word : (i v : ℕ) → i ≤ 8 → v < 256 ^ i → v < 2 ^ 64
 fits_word i v h k = lt_of_lt_of_le k (pow-le-pow_right {n = 256} (lit≤ tt) h)
 
--- what the first i + 1 of the bytes from `at` spell
-pub spelled_more : (s : List ℕ) (at i : ℕ) → at + i < length s → spelled 0 (take (i + 1) (drop at s)) ≡ spelled 0 (take i (drop at s)) * 256 + get_or s (at + i) 0
-spelled_more s at i h =
-    let l : i < length (drop at s) = simp length-drop (omega arith) in
-    rw (add-one i, take-suc (drop at s) i 0 l, spelled_snoc, get_or-drop)
+-- what the first i + 1 bytes spell
+pub spelled_more : (s : List ℕ) (i : ℕ) → i < length s → spelled 0 (take (i + 1) s) ≡ spelled 0 (take i s) * 256 + get_or s i 0
+spelled_more s i h = rw (add-one i, take-suc s i 0 h, spelled_snoc)
 
 -- a run of stores after another is one run
 pub sets_append : (l : List ℕ) (i : ℕ) (a b : List ℕ) → sets (sets l i a) (i + length a) b ≡ sets l i (a ++ b)
@@ -64,22 +63,32 @@ sets_append l i (x ∷ a) b =
     let e : i + suc (length a) ≡ suc i + length a = omega arith in
     rw e (sets_append (set l i x) (suc i) a b)
 
-pub sets_at : (l : List ℕ) (i : ℕ) (a b : List ℕ) (n : ℕ) → length a ≡ n → sets (sets l i a) (i + n) b ≡ sets l i (a ++ b)
-sets_at l i a b n e = rw (← e) (sets_append l i a b)
+-- the low bytes as the library gives them: those of the rest, and the lowest
+byte_rest : (k v : ℕ) → byte_at (suc k) v ≡ byte_at k (v / 256)
+byte_rest zero v = refl
+byte_rest (suc k) v = rw (pow-succ' 256 (suc k), ← div-div-eq-div-mul v 256 (256 ^ suc k)) refl
 
--- a store past a run of stores may come before it
-sets_past : (l : List ℕ) (i : ℕ) (a : List ℕ) (j x : ℕ) → i + length a ≤ j → sets (set l j x) i a ≡ set (sets l i a) j x
-sets_past l i [] j x h = refl
-sets_past l i (y ∷ a) j x h = rw (set_comm l j i x y (λ e. omega arith)) (sets_past (set l i y) (suc i) a j x (omega arith))
+high_first_snoc : (n v : ℕ) → bytes_high_first (suc n) v ≡ bytes_high_first n (v / 256) ++ (v % 256 ∷ [])
+high_first_snoc zero v = refl
+high_first_snoc (suc n) v = rw (byte_rest n v, high_first_snoc n v) refl
 
--- the lowest byte, and then the bytes of the rest before it
-pub sets_bytes : (l : List ℕ) (i n v : ℕ) → 0 < n → sets (set l (i + (n - 1)) (v % 256)) i (bytes_of (n - 1) (v / 256)) ≡ sets l i (bytes_of n v)
+pub high_first : (n v : ℕ) → bytes_high_first n v ≡ bytes_of n v
 unfolding bytes_of
-sets_bytes l i zero v h = absurd (omega arith)
-sets_bytes l i (suc k) v h =
-    let e : suc k - 1 ≡ k = omega arith in
-    let n = bytes_length k (v / 256) in
-    rw (e, sets_past l i (bytes_of k (v / 256)) (i + k) (v % 256) (omega arith)) (sets_at l i (bytes_of k (v / 256)) (v % 256 ∷ []) k n)
+high_first zero v = refl
+high_first (suc n) v = high_first_snoc n v ∙ ap (λ (l : List ℕ). l ++ (v % 256 ∷ [])) (high_first n (v / 256))
+
+-- the last n of them are the low n bytes
+pub last_bytes : (j n v : ℕ) → drop j (bytes_high_first (j + n) v) ≡ bytes_of n v
+last_bytes zero n v = rw (zero-add n) (high_first n v)
+last_bytes (suc j) n v = let e : suc j + n ≡ suc (j + n) = omega arith in rw e (last_bytes j n v)
+
+-- of the eight bytes of a number, the last n
+pub low_bytes : (n v : ℕ) → n ≤ 8 → take (8 - (8 - n)) (drop (8 - n) (bytes_high_first 8 v)) ≡ bytes_of n v
+low_bytes n v h =
+    let j : 8 - n + n ≡ 8 = omega arith in
+    let k : 8 - (8 - n) ≡ n = omega arith in
+    let d : drop (8 - n) (bytes_high_first 8 v) ≡ bytes_of n v = ap (λ (m : ℕ). drop (8 - n) (bytes_high_first m v)) (sym j) ∙ last_bytes (8 - n) n v in
+    ap (λ (m : ℕ). take m (drop (8 - n) (bytes_high_first 8 v))) (k ∙ sym (bytes_length n v)) ∙ ap (λ (l : List ℕ). take (length (bytes_of n v)) l) d ∙ take-length (bytes_of n v)
 
 pub framed_short : (tag len : ℕ) (l : List ℕ) → length l < 3 → framed tag len l ≡ false
 unfolding framed

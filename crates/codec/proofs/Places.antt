@@ -3,9 +3,8 @@
 use mathlib.Core.Path.{◌≡◌, refl, sym, ap, subst, ◌∙◌}
 use mathlib.Core.Bool.{Bool, true, ◌||◌}
 use mathlib.Core.List.{List, [], ◌∷◌, ◌++◌, append_assoc, append_cancel_right}
-use mathlib.Core.Option.{Option, some, none}
+use Rattle.std.specs.Prelude.{Option, Some, None}
 use Prim.Native.Nat.{ℕ}
-use native.Mathlib.Omega.{arith}
 use lib.ListN.{length, take, drop, take-append-drop}
 use lib.Seq.{drop_at, length-take-le}
 use Rattle.lists.specs.Lists.{all}
@@ -107,16 +106,16 @@ alike_at read w r q bs k e h = rw e (k (rw e at h))
 
 -- ---- a field that is not there
 absent_rest : {A : Type 0} (d : Option A) (bs : List ℕ) → rest_of (absent d bs) ≡ bs
-absent_rest (some x) bs = refl
-absent_rest none bs = refl
+absent_rest (Some x) bs = refl
+absent_rest None bs = refl
 
 absent_moved : {A : Type 0} (d : Option A) (q r : List ℕ) → absent d q ≡ moved (absent d r) q
-absent_moved (some x) q r = refl
-absent_moved none q r = refl
+absent_moved (Some x) q r = refl
+absent_moved None q r = refl
 
 absent_stopped : {A : Type 0} (d : Option A) (bs : List ℕ) (n : ℕ) (rest : List ℕ) → absent d bs ≡ stopped n rest → (bs ≡ rest) × (n ≡ malformed)
-absent_stopped (some x) bs n rest h = absurd (let z : ◌≡◌ {A = ℕ} 0 1 = cc in omega arith)
-absent_stopped none bs n rest h =
+absent_stopped (Some x) bs n rest h = cc
+absent_stopped None bs n rest h =
     let p : bs ≡ rest = cc in
     let q : n ≡ malformed = cc in
     (p, q)
@@ -124,12 +123,12 @@ absent_stopped none bs n rest h =
 -- ---- one field
 module _ {A : Type 0} (f : Item A) (l : ItemLaws f) where
   -- the field found, and whole fields after it
-  pub found_more : (bs rest : List ℕ) (a : A) → f.look bs ≡ some a → Whole (drop (f.size a) bs) rest → Whole bs rest
+  pub found_more : (bs rest : List ℕ) (a : A) → f.look bs ≡ Some a → Whole (drop (f.size a) bs) rest → Whole bs rest
   found_more bs rest a e w =
       subst (λ (m : List ℕ). Whole m rest) (take-append-drop (f.size a) bs) (field_more (take (f.size a) bs) (drop (f.size a) bs) rest (l.taken bs a e).0 w)
 
   -- a field found is found whatever comes behind it
-  pub found_alike : (w r u : List ℕ) (a : A) → f.look (w ++ r) ≡ some a → drop (f.size a) (w ++ r) ≡ u ++ r → (q : List ℕ) → (f.look (w ++ q) ≡ some a) × (drop (f.size a) (w ++ q) ≡ u ++ q)
+  pub found_alike : (w r u : List ℕ) (a : A) → f.look (w ++ r) ≡ Some a → drop (f.size a) (w ++ r) ≡ u ++ r → (q : List ℕ) → (f.look (w ++ q) ≡ Some a) × (drop (f.size a) (w ++ q) ≡ u ++ q)
   found_alike w r u a e h q =
       let g = take (f.size a) (w ++ r) in
       let t = l.taken (w ++ r) a e in
@@ -140,23 +139,23 @@ module _ {A : Type 0} (f : Item A) (l : ItemLaws f) where
       (ap f.look x ∙ l.alike g (u ++ q) (u ++ r) t.0 ∙ ap f.look (sym s) ∙ e, ap (drop (f.size a)) x ∙ drop_at g (u ++ q) (f.size a) n)
 
   -- where none is found before a field, none is found before the same field
-  pub none_alike : (w r q : List ℕ) → SameField r q → f.look (w ++ r) ≡ none → w ++ r ≡ r → (f.look (w ++ q) ≡ none) × (w ++ q ≡ q)
+  pub none_alike : (w r q : List ℕ) → SameField r q → f.look (w ++ r) ≡ None → w ++ r ≡ r → (f.look (w ++ q) ≡ None) × (w ++ q ≡ q)
   none_alike w r q s e h =
       let k : w ≡ [] = append_cancel_right w [] r h in
       let x : w ++ q ≡ q = ap (λ (m : List ℕ). m ++ q) k in
       (ap f.look (x ∙ s.so) ∙ l.alike s.first s.other s.after s.whole ∙ ap f.look (sym (h ∙ s.is)) ∙ e, x)
 
   need_fields : (bs : List ℕ) (o : Option A) → f.look bs ≡ o → Whole bs (rest_of (need f bs o))
-  need_fields bs none e = no_field bs
-  need_fields bs (some x) e = found_more bs (drop (f.size x) bs) x e (no_field (drop (f.size x) bs))
+  need_fields bs None e = no_field bs
+  need_fields bs (Some x) e = found_more bs (drop (f.size x) bs) x e (no_field (drop (f.size x) bs))
 
   need_alike : (w r q : List ℕ) → SameField r q → (o : Option A) → f.look (w ++ r) ≡ o → rest_of (need f (w ++ r) o) ≡ r → need f (w ++ q) (f.look (w ++ q)) ≡ moved (need f (w ++ r) o) q
-  need_alike w r q s none e h = let k = none_alike w r q s e h in rw k.0 (ap (stopped malformed) k.1)
-  need_alike w r q s (some x) e h = let k = found_alike w r [] x e h q in rw k.0 (ap (got x) k.1)
+  need_alike w r q s None e h = let k = none_alike w r q s e h in rw k.0 (ap (stopped malformed) k.1)
+  need_alike w r q s (Some x) e h = let k = found_alike w r [] x e h q in rw k.0 (ap (got x) k.1)
 
   need_begun : (a : A) → f.fine a ≡ true → (bs : List ℕ) (o : Option A) (n : ℕ) (rest : List ℕ) → need f bs o ≡ stopped n rest → Begun (one f) bs rest
-  need_begun a k bs none n rest h = record { front = []; is = cc; value = a; ok = k; more = f.text a; begins = refl }
-  need_begun a k bs (some x) n rest h = absurd (let z : ◌≡◌ {A = ℕ} 0 1 = cc in omega arith)
+  need_begun a k bs None n rest h = record { front = []; is = cc; value = a; ok = k; more = f.text a; begins = refl }
+  need_begun a k bs (Some x) n rest h = cc
 
   pub one_placed : (a : A) → f.fine a ≡ true → Placed (one f)
   one_placed a k =
@@ -169,27 +168,27 @@ module _ {A : Type 0} (f : Item A) (l : ItemLaws f) where
       }
 
   need_numbered : (bs : List ℕ) (o : Option A) (why : ℕ) (rest : List ℕ) → need f bs o ≡ stopped why rest → why ≡ malformed
-  need_numbered bs none why rest h = cc
-  need_numbered bs (some x) why rest h = cc
+  need_numbered bs None why rest h = cc
+  need_numbered bs (Some x) why rest h = cc
 
   pub one_numbered : Numbered (one f) malformed
   one_numbered = record { only = λ bs why rest h. need_numbered bs (f.look bs) why rest h }
 
   module _ (d : Option A) where
     else_fields : (bs : List ℕ) (o : Option A) → f.look bs ≡ o → Whole bs (rest_of (or_else f d bs o))
-    else_fields bs none e = rw (absent_rest d bs) (no_field bs)
-    else_fields bs (some x) e = found_more bs (drop (f.size x) bs) x e (no_field (drop (f.size x) bs))
+    else_fields bs None e = rw (absent_rest d bs) (no_field bs)
+    else_fields bs (Some x) e = found_more bs (drop (f.size x) bs) x e (no_field (drop (f.size x) bs))
 
     else_alike : (w r q : List ℕ) → SameField r q → (o : Option A) → f.look (w ++ r) ≡ o → rest_of (or_else f d (w ++ r) o) ≡ r → or_else f d (w ++ q) (f.look (w ++ q)) ≡ moved (or_else f d (w ++ r) o) q
-    else_alike w r q s none e h =
+    else_alike w r q s None e h =
         let k = none_alike w r q s e (sym (absent_rest d (w ++ r)) ∙ h) in
         rw k.0 (absent_moved d (w ++ q) (w ++ r) ∙ ap (moved (absent d (w ++ r))) k.1)
-    else_alike w r q s (some x) e h = let k = found_alike w r [] x e h q in rw k.0 (ap (got x) k.1)
+    else_alike w r q s (Some x) e h = let k = found_alike w r [] x e h q in rw k.0 (ap (got x) k.1)
 
     -- where it stops nothing was read, by 13
     else_stopped : (bs : List ℕ) (o : Option A) (n : ℕ) (rest : List ℕ) → or_else f d bs o ≡ stopped n rest → (bs ≡ rest) × (n ≡ malformed)
-    else_stopped bs none n rest h = absent_stopped d bs n rest h
-    else_stopped bs (some x) n rest h = absurd (let z : ◌≡◌ {A = ℕ} 0 1 = cc in omega arith)
+    else_stopped bs None n rest h = absent_stopped d bs n rest h
+    else_stopped bs (Some x) n rest h = cc
 
     -- with a value that may be written, left out or not
     pub opt_placed : (is : A → Bool) (a : A) → (is a || f.fine a) ≡ true → Placed (opt f d is)

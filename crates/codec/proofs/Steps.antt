@@ -2,7 +2,7 @@
 -- Assumes nothing.
 use mathlib.Core.Path.{◌≡◌, ap, ◌∙◌}
 use mathlib.Core.List.{List, [], ◌∷◌}
-use mathlib.Core.Option.{none}
+use Rattle.std.specs.Prelude.{None}
 use Prim.Native.Nat.{ℕ, suc, ◌-◌, ◌≤◌, ◌<◌}
 use native.Mathlib.Omega.{arith}
 use lib.ListN.{length, drop, get_or, length-drop}
@@ -26,7 +26,7 @@ module _ {A B : Type 0} (c : Codec A) (d : A → Codec B) {s : List ℕ} {at : �
   then_stopped {a} h k = record { is = ap (and_then d) h.is ∙ ap (pair_up a) k.is; inside = k.inside }
 
 -- a required field that is not there
-pub one_none : {A : Type 0} (tag : ℕ) (v : Value A) (s : List ℕ) (at : ℕ) → at ≤ length s → field tag v (drop at s) ≡ none → StoppedAt (one (tagged tag v)) s at malformed at
+pub one_none : {A : Type 0} (tag : ℕ) (v : Value A) (s : List ℕ) (at : ℕ) → at ≤ length s → field tag v (drop at s) ≡ None → StoppedAt (one (tagged tag v)) s at malformed at
 one_none tag v s at h e = record { is = ap (need (tagged tag v) (drop at s)) e; inside = h }
 
 -- ---- the whole message

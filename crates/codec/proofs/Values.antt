@@ -3,7 +3,8 @@
 use mathlib.Core.Path.{◌≡◌, refl, sym, ap, ap₂, ◌∙◌}
 use mathlib.Core.Bool.{Bool, true, false, ◌&&◌}
 use mathlib.Core.List.{List, [], ◌∷◌, ◌++◌, append_assoc}
-use mathlib.Core.Option.{Option, some, none}
+use Rattle.std.specs.Prelude.{Option, Some, None}
+use Rattle.std.specs.Bool.{then_some}
 use Prim.Native.Nat.{ℕ, zero, suc, ◌+◌, ◌≤◌, ◌<◌, ◌^◌}
 use native.Mathlib.Nat.{lt_of_le_of_lt}
 use native.Mathlib.Omega.{arith}
@@ -35,13 +36,17 @@ bytes_take (suc n) (x ∷ xs) b (suc i) = bytes_take n xs (λ j. b (suc j)) i
 
 pub record ValueLaws {A : Type 0} (v : Value A) : Type 0 where
   pub size : (a : A) → v.fine a ≡ true → length (v.put a) ≡ v.len
-  pub there : (a : A) (rest : List ℕ) → v.fine a ≡ true → v.get (v.put a ++ rest) ≡ some a
-  pub back : (l : List ℕ) (a : A) → Bytes l → v.len ≤ length l → v.get l ≡ some a → (l ≡ v.put a ++ drop v.len l) × (v.fine a ≡ true)
+  pub there : (a : A) (rest : List ℕ) → v.fine a ≡ true → v.get (v.put a ++ rest) ≡ Some a
+  pub back : (l : List ℕ) (a : A) → Bytes l → v.len ≤ length l → v.get l ≡ Some a → (l ≡ v.put a ++ drop v.len l) × (v.fine a ≡ true)
   pub alike : (p r q : List ℕ) → length p ≡ v.len → v.get (p ++ r) ≡ v.get (p ++ q)
 
-pub when_true : {A : Type 0} (t : Bool) (a b : A) → when t (some a) ≡ some b → (t ≡ true) × (a ≡ b)
+pub when_true : {A : Type 0} (t : Bool) (a b : A) → when t (Some a) ≡ Some b → (t ≡ true) × (a ≡ b)
 when_true true a b h = (refl, cc)
-when_true false a b h = absurd (let z : ◌≡◌ {A = ℕ} 0 1 = cc in omega arith)
+when_true false a b h = cc
+
+pub some_when : {A : Type 0} (t : Bool) (a : A) → then_some t a ≡ when t (Some a)
+some_when true a = refl
+some_when false a = refl
 
 -- the bytes of what the first n bytes spell are those bytes
 bytes_take_back : (n : ℕ) (l : List ℕ) → Bytes l → n ≤ length l → l ≡ bytes_of n (spelled 0 (take n l)) ++ drop n l
@@ -63,7 +68,7 @@ num_laws n lo hi h =
       alike = λ p r q e. rw (take_at p r n e, take_at p q n e);
     }
   where
-    there : (a : ℕ) (rest : List ℕ) → (leb lo a && leb a hi) ≡ true → spelled 0 (take n (bytes_of n a ++ rest)) ≡ a → (num n lo hi).get (bytes_of n a ++ rest) ≡ some a
+    there : (a : ℕ) (rest : List ℕ) → (leb lo a && leb a hi) ≡ true → spelled 0 (take n (bytes_of n a ++ rest)) ≡ a → (num n lo hi).get (bytes_of n a ++ rest) ≡ Some a
     there a rest f e = rw (e, f)
 
     back : (l : List ℕ) (a : ℕ) → Bytes l → n ≤ length l → ((leb lo (spelled 0 (take n l)) && leb (spelled 0 (take n l)) hi) ≡ true) × (spelled 0 (take n l) ≡ a) → (l ≡ bytes_of n a ++ drop n l) × ((leb lo a && leb a hi) ≡ true)
@@ -82,7 +87,7 @@ int_laws m h =
     fits (pos k) f = record { sfits = omega (arith, leb-true k m f) }
     fits (negsuc k) f = record { sfits = omega (arith, leb-true (suc k) m f) }
 
-    there : (z : ℤ) (rest : List ℕ) → leb (nat_abs z) m ≡ true → SFits w64 z → (int m).get (bytes_of 8 (of_z w64 z) ++ rest) ≡ some z
+    there : (z : ℤ) (rest : List ℕ) → leb (nat_abs z) m ≡ true → SFits w64 z → (int m).get (bytes_of 8 (of_z w64 z) ++ rest) ≡ Some z
     there z rest f s = rw (spelled_there 8 (of_z w64 z) rest (of_z_fits w64 z s).fits, to_z-of_z w64 z s, f)
 
     back : (l : List ℕ) (z : ℤ) → Bytes l → 8 ≤ length l → (leb (nat_abs (to_z w64 (spelled 0 (take 8 l)))) m ≡ true) × (to_z w64 (spelled 0 (take 8 l)) ≡ z) → (l ≡ bytes_of 8 (of_z w64 z) ++ drop 8 l) × (leb (nat_abs z) m ≡ true)
@@ -91,15 +96,15 @@ int_laws m h =
         rw (← g.1) (rw (of_z-to_z w64 (spelled 0 (take 8 l)) (record { fits = u })) (bytes_take_back 8 l b k), g.0)
 
 module _ {A B : Type 0} (v : Value A) (w : Value B) (lv : ValueLaws v) (lw : ValueLaws w) where
-  pair_there : (a : A) (b : B) (rest : List ℕ) → (v.fine a && w.fine b) ≡ true → (pair v w).get ((v.put a ++ w.put b) ++ rest) ≡ some (a, b)
+  pair_there : (a : A) (b : B) (rest : List ℕ) → (v.fine a && w.fine b) ≡ true → (pair v w).get ((v.put a ++ w.put b) ++ rest) ≡ Some (a, b)
   pair_there a b rest h =
       let ha : v.fine a ≡ true = and_left (v.fine a) (w.fine b) h in
       let hb : w.fine b ≡ true = and_right (v.fine a) (w.fine b) h in
       rw (append_assoc (v.put a) (w.put b) rest, lv.there a (w.put b ++ rest) ha, drop_at (v.put a) (w.put b ++ rest) v.len (lv.size a ha), lw.there b rest hb)
 
-  pair_back2 : (l : List ℕ) (a : A) → (l ≡ v.put a ++ drop v.len l) × (v.fine a ≡ true) → Bytes l → v.len + w.len ≤ length l → (o : Option B) → w.get (drop v.len l) ≡ o → (p : A × B) → map_o (λ b. (a, b)) o ≡ some p → (l ≡ (v.put p.0 ++ w.put p.1) ++ drop (v.len + w.len) l) × ((v.fine p.0 && w.fine p.1) ≡ true)
-  pair_back2 l a k b h none e p g = absurd (let z : ◌≡◌ {A = ℕ} 0 1 = cc in omega arith)
-  pair_back2 l a k b h (some y) e p g =
+  pair_back2 : (l : List ℕ) (a : A) → (l ≡ v.put a ++ drop v.len l) × (v.fine a ≡ true) → Bytes l → v.len + w.len ≤ length l → (o : Option B) → w.get (drop v.len l) ≡ o → (p : A × B) → map_o (λ b. (a, b)) o ≡ Some p → (l ≡ (v.put p.0 ++ w.put p.1) ++ drop (v.len + w.len) l) × ((v.fine p.0 && w.fine p.1) ≡ true)
+  pair_back2 l a k b h None e p g = cc
+  pair_back2 l a k b h (Some y) e p g =
       let pe : (a, y) ≡ p = cc in
       let hl : w.len ≤ length (drop v.len l) = simp length-drop (omega arith) in
       let m = lw.back (drop v.len l) y (bytes_drop v.len l b) hl e in
@@ -107,9 +112,9 @@ module _ {A B : Type 0} (v : Value A) (w : Value B) (lv : ValueLaws v) (lw : Val
       rw (← pe)
       (k.0 ∙ ap (λ (n : List ℕ). v.put a ++ n) (m.0 ∙ ap (λ (n : List ℕ). w.put y ++ n) q) ∙ sym (append_assoc (v.put a) (w.put y) (drop (v.len + w.len) l)), rw k.1 m.1)
 
-  pair_back : (l : List ℕ) → Bytes l → v.len + w.len ≤ length l → (o : Option A) → v.get l ≡ o → (p : A × B) → bind_o o (λ a. map_o (λ b. (a, b)) (w.get (drop v.len l))) ≡ some p → (l ≡ (v.put p.0 ++ w.put p.1) ++ drop (v.len + w.len) l) × ((v.fine p.0 && w.fine p.1) ≡ true)
-  pair_back l b h none e p g = absurd (let z : ◌≡◌ {A = ℕ} 0 1 = cc in omega arith)
-  pair_back l b h (some a) e p g = pair_back2 l a (lv.back l a b (omega arith) e) b h (w.get (drop v.len l)) refl p g
+  pair_back : (l : List ℕ) → Bytes l → v.len + w.len ≤ length l → (o : Option A) → v.get l ≡ o → (p : A × B) → bind_o o (λ a. map_o (λ b. (a, b)) (w.get (drop v.len l))) ≡ Some p → (l ≡ (v.put p.0 ++ w.put p.1) ++ drop (v.len + w.len) l) × ((v.fine p.0 && w.fine p.1) ≡ true)
+  pair_back l b h None e p g = cc
+  pair_back l b h (Some a) e p g = pair_back2 l a (lv.back l a b (omega arith) e) b h (w.get (drop v.len l)) refl p g
 
   pair_alike : (p r q : List ℕ) → length p ≡ v.len + w.len → (pair v w).get (p ++ r) ≡ (pair v w).get (p ++ q)
   pair_alike p r q e =
@@ -130,9 +135,9 @@ module _ {A B : Type 0} (v : Value A) (w : Value B) (lv : ValueLaws v) (lw : Val
       }
 
 module _ {A B : Type 0} (to : A → B) (from : B → A) (v : Value A) (tf : (b : B) → to (from b) ≡ b) (ft : (a : A) → from (to a) ≡ a) (lv : ValueLaws v) where
-  map_back : (l : List ℕ) → Bytes l → v.len ≤ length l → (o : Option A) → v.get l ≡ o → (b : B) → map_o to o ≡ some b → (l ≡ v.put (from b) ++ drop v.len l) × (v.fine (from b) ≡ true)
-  map_back l by h none e b g = absurd (let z : ◌≡◌ {A = ℕ} 0 1 = cc in omega arith)
-  map_back l by h (some a) e b g =
+  map_back : (l : List ℕ) → Bytes l → v.len ≤ length l → (o : Option A) → v.get l ≡ o → (b : B) → map_o to o ≡ Some b → (l ≡ v.put (from b) ++ drop v.len l) × (v.fine (from b) ≡ true)
+  map_back l by h None e b g = cc
+  map_back l by h (Some a) e b g =
       let pe : to a ≡ b = cc in
       rw (← pe, ft a) (lv.back l a by h e)
 
@@ -140,18 +145,18 @@ module _ {A B : Type 0} (to : A → B) (from : B → A) (v : Value A) (tf : (b :
   mapped_laws =
       record {
         size = λ b f. lv.size (from b) f;
-        there = λ b rest f. ap (map_o to) (lv.there (from b) rest f) ∙ ap some (tf b);
+        there = λ b rest f. ap (map_o to) (lv.there (from b) rest f) ∙ ap Some (tf b);
         back = λ l b by h g. map_back l by h (v.get l) refl b g;
         alike = λ p r q e. ap (map_o to) (lv.alike p r q e);
       }
 
 module _ {A : Type 0} (t : A → Bool) (v : Value A) (lv : ValueLaws v) where
-  restricted_there : (a : A) (rest : List ℕ) → (v.fine a && t a) ≡ true → (restricted t v).get (v.put a ++ rest) ≡ some a
+  restricted_there : (a : A) (rest : List ℕ) → (v.fine a && t a) ≡ true → (restricted t v).get (v.put a ++ rest) ≡ Some a
   restricted_there a rest f = rw (lv.there a rest (and_left (v.fine a) (t a) f), and_right (v.fine a) (t a) f)
 
-  restricted_back : (l : List ℕ) → Bytes l → v.len ≤ length l → (o : Option A) → v.get l ≡ o → (a : A) → bind_o o (λ x. when (t x) (some x)) ≡ some a → (l ≡ v.put a ++ drop v.len l) × ((v.fine a && t a) ≡ true)
-  restricted_back l by h none e a g = absurd (let z : ◌≡◌ {A = ℕ} 0 1 = cc in omega arith)
-  restricted_back l by h (some x) e a g =
+  restricted_back : (l : List ℕ) → Bytes l → v.len ≤ length l → (o : Option A) → v.get l ≡ o → (a : A) → bind_o o (λ x. when (t x) (Some x)) ≡ Some a → (l ≡ v.put a ++ drop v.len l) × ((v.fine a && t a) ≡ true)
+  restricted_back l by h None e a g = cc
+  restricted_back l by h (Some x) e a g =
       let w = when_true (t x) x a g in
       let k = lv.back l x by h e in
       rw (← w.1) (k.0, rw k.1 w.0)
@@ -162,5 +167,5 @@ module _ {A : Type 0} (t : A → Bool) (v : Value A) (lv : ValueLaws v) where
         size = λ a f. lv.size a (and_left (v.fine a) (t a) f);
         there = restricted_there;
         back = λ l a by h g. restricted_back l by h (v.get l) refl a g;
-        alike = λ p r q e. ap (λ (o : Option A). bind_o o (λ x. when (t x) (some x))) (lv.alike p r q e);
+        alike = λ p r q e. ap (λ (o : Option A). bind_o o (λ x. when (t x) (Some x))) (lv.alike p r q e);
       }

@@ -1,7 +1,7 @@
 -- A format is a term: values of a fixed number of bytes, fields with a tag, and fields in order. Each part says how it is
 -- read, how it is written, and what may be written, so that reading and writing are one definition.
 use Rattle.std.specs.Prelude.{Bool, true, false, ◌&&◌, ◌||◌, List, [], ◌∷◌, ◌++◌, ◌≡◌, ℕ, zero, suc, ◌+◌, ◌≤◌, leb, ℤ, nat_abs, length, take, drop}
-use Rattle.std.proofs.Math.Option.{Option, some, none}
+use Rattle.std.specs.Prelude.{Option, Some, None}
 use Rattle.std.specs.Int.{w64}
 use Rattle.std.proofs.Common.{to_z, of_z}
 use Rattle.codec.specs.Numbers.{spelled, bytes_of}
@@ -17,21 +17,21 @@ pub record Value (A : Type 0) : Type 0 where
 -- what is there, where the test holds
 abbrev pub when : {A : Type 0} → Bool → Option A → Option A
 when true o = o
-when false o = none
+when false o = None
 
 abbrev pub map_o : {A B : Type 0} → (A → B) → Option A → Option B
-map_o g none = none
-map_o g (some a) = some (g a)
+map_o g None = None
+map_o g (Some a) = Some (g a)
 
 abbrev pub bind_o : {A B : Type 0} → Option A → (A → Option B) → Option B
-bind_o none g = none
-bind_o (some a) g = g a
+bind_o None g = None
+bind_o (Some a) g = g a
 
 -- a number of n bytes, from lo to hi
 abbrev pub num : ℕ → ℕ → ℕ → Value ℕ
 num n lo hi = record {
   len = n;
-  get = λ l. when (leb lo (spelled 0 (take n l)) && leb (spelled 0 (take n l)) hi) (some (spelled 0 (take n l)));
+  get = λ l. when (leb lo (spelled 0 (take n l)) && leb (spelled 0 (take n l)) hi) (Some (spelled 0 (take n l)));
   put = bytes_of n;
   fine = λ v. leb lo v && leb v hi;
 }
@@ -40,7 +40,7 @@ num n lo hi = record {
 abbrev pub int : ℕ → Value ℤ
 int most = record {
   len = 8;
-  get = λ l. when (leb (nat_abs (to_z w64 (spelled 0 (take 8 l)))) most) (some (to_z w64 (spelled 0 (take 8 l))));
+  get = λ l. when (leb (nat_abs (to_z w64 (spelled 0 (take 8 l)))) most) (Some (to_z w64 (spelled 0 (take 8 l))));
   put = λ z. bytes_of 8 (of_z w64 z);
   fine = λ z. leb (nat_abs z) most;
 }
@@ -62,7 +62,7 @@ mapped to from v = record { len = v.len; get = λ l. map_o to (v.get l); put = �
 abbrev pub restricted : {A : Type 0} → (A → Bool) → Value A → Value A
 restricted test v = record {
   len = v.len;
-  get = λ l. bind_o (v.get l) (λ a. when (test a) (some a));
+  get = λ l. bind_o (v.get l) (λ a. when (test a) (Some a));
   put = v.put;
   fine = λ a. v.fine a && test a;
 }
@@ -104,8 +104,8 @@ malformed = 13
 
 -- a field that has to be there
 abbrev pub need : {A : Type 0} → Item A → List ℕ → Option A → Res A
-need f bs (some a) = got a (drop (f.size a) bs)
-need f bs none = stopped malformed bs
+need f bs (Some a) = got a (drop (f.size a) bs)
+need f bs None = stopped malformed bs
 
 abbrev pub one : {A : Type 0} → Item A → Codec A
 one f = record { read = λ bs. need f bs (f.look bs); write = f.text; ok = f.fine }
@@ -113,12 +113,12 @@ one f = record { read = λ bs. need f bs (f.look bs); write = f.text; ok = f.fin
 -- a field that is left out for the value that d has, and for it alone: the test is true of that value and of nothing else.
 -- Where d has none the field has to be there
 abbrev pub absent : {A : Type 0} → Option A → List ℕ → Res A
-absent (some d) bs = got d bs
-absent none bs = stopped malformed bs
+absent (Some d) bs = got d bs
+absent None bs = stopped malformed bs
 
 abbrev pub or_else : {A : Type 0} → Item A → Option A → List ℕ → Option A → Res A
-or_else f d bs (some a) = got a (drop (f.size a) bs)
-or_else f d bs none = absent d bs
+or_else f d bs (Some a) = got a (drop (f.size a) bs)
+or_else f d bs None = absent d bs
 
 abbrev pub unless : Bool → List ℕ → List ℕ
 unless true bs = []
@@ -129,8 +129,8 @@ opt f d is = record { read = λ bs. or_else f d bs (f.look bs); write = λ a. un
 
 -- at most n fields, in their order: what one may hold can depend on those before it
 abbrev pub more : {A : Type 0} → List A → List ℕ → (A → Res (List A)) → Option A → Res (List A)
-more before bs k none = got before bs
-more before bs k (some a) = k a
+more before bs k None = got before bs
+more before bs k (Some a) = k a
 
 unfoldable pub scan : {A : Type 0} → (List A → Item A) → ℕ → List A → List ℕ → Res (List A)
 scan f zero before bs = got before bs

@@ -1,13 +1,9 @@
 -- What the calls on a slice and a place answer, on every input.
 use Rattle.std.specs.Prelude.{Bool, cond, ◌&&◌, List, [], ◌++◌, ◌≡◌, ℕ, ◌<◌, ◌^◌, leb, ℤ, length, take, drop}
-use Rattle.std.proofs.Math.Option.{Option, some, none}
+use Rattle.std.specs.Prelude.{Option}
 use Rattle.codec.specs.Numbers.{spelled, bytes_of}
 use Rattle.codec.specs.Fields.{head}
 use Rattle.codec.specs.Format.{num, int, field, when}
-use Rattle.codec.specs.declared.FoundNumber.{FoundNumber}
-use Rattle.codec.specs.declared.FoundNumber.TheVariants as N
-use Rattle.codec.specs.declared.FoundAmount.{FoundAmount}
-use Rattle.codec.specs.declared.FoundAmount.TheVariants as A
 
 -- a number has at most eight bytes
 abbrev pub widest : ℕ
@@ -33,19 +29,10 @@ number_bytes n v = cond (leb n widest) (bytes_of n v) []
 unfoldable pub number_field_bytes : ℕ → ℕ → ℕ → List ℕ
 number_field_bytes tag n v = cond (leb n widest) (head tag n ++ bytes_of n v) []
 
--- what is found, as an answer
-abbrev pub number_found : Option ℕ → FoundNumber
-number_found none = N.Not
-number_found (some v) = N.Is v
-
-abbrev pub amount_found : Option ℤ → FoundAmount
-amount_found none = A.Not
-amount_found (some z) = A.Is z
-
 -- a field of one number from lo to hi
-unfoldable pub number_field : ℕ → ℕ → ℕ → ℕ → List ℕ → FoundNumber
-number_field tag n lo hi bs = number_found (when (leb n widest) (field tag (num n lo hi) bs))
+unfoldable pub number_field : ℕ → ℕ → ℕ → ℕ → List ℕ → Option ℕ
+number_field tag n lo hi bs = when (leb n widest) (field tag (num n lo hi) bs)
 
 -- a signed number of eight bytes, of at most this magnitude
-unfoldable pub amount_at : ℕ → List ℕ → FoundAmount
-amount_at most bs = amount_found (when (leb widest (length bs)) ((int most).get bs))
+unfoldable pub amount_at : ℕ → List ℕ → Option ℤ
+amount_at most bs = when (leb widest (length bs)) ((int most).get bs)

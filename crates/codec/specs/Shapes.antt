@@ -1,7 +1,7 @@
 -- More ways to put fields together: a field that is one of two, and fields that repeat as often as they are there, each of which
 -- a rule can refuse by a number of its own.
 use Rattle.std.specs.Prelude.{Bool, true, cond, ◌&&◌, List, [], ◌∷◌, ◌++◌, ℕ, zero, suc, eqb, length, drop}
-use Rattle.std.proofs.Math.Option.{Option, some, none}
+use Rattle.std.specs.Prelude.{Option, Some, None}
 use Rattle.codec.specs.Format.{Value, map_o, Item, tagged, Res, got, stopped, Codec, more, texts, all_fine}
 
 -- a value with a number beside it that is always k and is not written
@@ -16,8 +16,8 @@ beside k v = record {
 -- a field that is one of two: the first where the test holds of its value, else the second. Two lengths under one tag, or two
 -- tags next to each other
 abbrev pub first_found : {A : Type 0} → Option A → Option A → Option A
-first_found none o = o
-first_found (some a) o = some a
+first_found None o = o
+first_found (Some a) o = Some a
 
 abbrev pub either : {A : Type 0} → (A → Bool) → Item A → Item A → Item A
 either is f g = record {

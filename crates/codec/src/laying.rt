@@ -1,43 +1,22 @@
 // Numbers and heads of fields written into a lent buffer.
-ghost use Rattle.std.specs.Prelude.{◌≡◌, ◌+◌, ◌≤◌, length};
-ghost use Rattle.std.proofs.lemmas.List.Edits.{sets};
+ghost use Rattle.std.specs.Prelude.{◌≡◌};
 ghost use Rattle.std.specs.Int.{w64};
 ghost use Rattle.std.proofs.Common.{of_z};
-ghost use Rattle.codec.specs.Numbers.{bytes_of};
 ghost use Rattle.codec.specs.Fields.{head};
 ghost use Rattle.codec.specs.Buffers.{after, laid};
 ghost use Rattle.codec.specs.Leaves.{number_bytes, number_field_bytes};
 
 use super::WIDEST;
 
-// The n low bytes of v from `at` on, high byte first.
-fn lay(out: &mut [u8], at: usize, n: usize, v: u64)
-    requires { at + n ≤ length out.old }
-    ensures { out.new ≡ sets out.old at (bytes_of n v) }
-{
-    let mut k = n;
-    let mut rest = v;
-    while 0 < k {
-        k -= 1;
-        out[at + k] = (rest % 256) as u8;
-        rest = rest / 256;
-    }
-}
-
 // Writes a number of n bytes from `at` on and answers the place after it; where there is no room, nothing and `at`.
 pub fn put(out: &mut [u8], at: usize, n: usize, v: u64) -> usize
     ensures { (out.new ≡ laid out.old at (number_bytes n v)) × (result ≡ after out.old at (number_bytes n v)) }
 {
-    if WIDEST < n {
+    if WIDEST < n || out.len() < at || out.len() - at < n {
         return at;
     }
-    if out.len() < at {
-        return at;
-    }
-    if out.len() - at < n {
-        return at;
-    }
-    lay(out, at, n, v);
+    let bytes = v.to_be_bytes();
+    out[at..at + n].copy_from_slice(&bytes[WIDEST - n..]);
     at + n
 }
 
@@ -45,14 +24,12 @@ pub fn put(out: &mut [u8], at: usize, n: usize, v: u64) -> usize
 pub fn put_head(out: &mut [u8], at: usize, tag: u8, len: u16) -> usize
     ensures { (out.new ≡ laid out.old at (head tag len)) × (result ≡ after out.old at (head tag len)) }
 {
-    if out.len() < at {
-        return at;
-    }
-    if out.len() - at < 3 {
+    if out.len().saturating_sub(at) < 3 {
         return at;
     }
     out[at] = tag;
-    lay(out, at + 1, 2, len as u64);
+    let bytes = len.to_be_bytes();
+    out[at + 1..at + 3].copy_from_slice(&bytes);
     at + 3
 }
 
@@ -61,14 +38,8 @@ pub fn put_number(out: &mut [u8], at: usize, tag: u8, n: u16, v: u64) -> usize
     ensures { (out.new ≡ laid out.old at (number_field_bytes tag n v))
         × (result ≡ after out.old at (number_field_bytes tag n v)) }
 {
-    let width = n as usize;
-    if WIDEST < width {
-        return at;
-    }
-    if out.len() < at {
-        return at;
-    }
-    if out.len() - at < 3 + width {
+    let width = usize::from(n);
+    if WIDEST < width || out.len().saturating_sub(at) < 3 + width {
         return at;
     }
     let p = put_head(out, at, tag, n);
@@ -79,9 +50,5 @@ pub fn put_number(out: &mut [u8], at: usize, tag: u8, n: u16, v: u64) -> usize
 pub fn unsigned(z: i64) -> u64
     ensures { result ≡ of_z w64 z }
 {
-    if z < 0 {
-        18_446_744_073_709_551_615 - (-1 - z) as u64
-    } else {
-        z as u64
-    }
+    z.cast_unsigned()
 }

@@ -4,7 +4,7 @@
 
 mod laying;
 
-ghost use Rattle.std.specs.Prelude.{◌≡◌, ◌+◌, ◌≤◌, drop, length, take};
+ghost use Rattle.std.specs.Prelude.{◌≡◌, ◌≤◌, drop, length};
 ghost use Rattle.std.specs.Int.{w64};
 ghost use Rattle.std.proofs.Common.{to_z};
 ghost use Rattle.codec.specs.Numbers.{spelled};
@@ -17,30 +17,14 @@ use money::within;
 // The most bytes of a number.
 const WIDEST: usize = 8;
 
-// A number in range, or none.
-#[derive(Clone, Copy)]
-pub enum FoundNumber {
-    Is(u64),
-    Not,
-}
-
-// A signed number in range, or none.
-#[derive(Clone, Copy)]
-pub enum FoundAmount {
-    Is(i64),
-    Not,
-}
-
-// The number that n bytes from `at` on spell, high byte first.
-fn spell(s: &[u8], at: usize, n: usize) -> u64
-    requires { (at + n ≤ length s.now) × (n ≤ 8) }
-    ensures { result ≡ spelled 0 (take n (drop at s.now)) }
+// The number that these bytes spell, high byte first.
+fn spell(bytes: &[u8]) -> u64
+    requires { length bytes.now ≤ 8 }
+    ensures { result ≡ spelled 0 bytes.now }
 {
     let mut v: u64 = 0;
-    let mut i: usize = 0;
-    while i < n {
-        v = v * 256 + s[at + i] as u64;
-        i += 1;
+    for b in bytes {
+        v = v * 256 + u64::from(*b);
     }
     v
 }
@@ -49,82 +33,47 @@ fn spell(s: &[u8], at: usize, n: usize) -> u64
 pub fn number(s: &[u8], at: usize, n: usize) -> u64
     ensures { result ≡ number_at n (drop at s.now) }
 {
-    if WIDEST < n {
+    if WIDEST < n || s.len() < at || s.len() - at < n {
         return 0;
     }
-    if s.len() < at {
-        return 0;
-    }
-    if s.len() - at < n {
-        return 0;
-    }
-    spell(s, at, n)
+    spell(&s[at..at + n])
 }
 
 // Whether a field of this tag and length, not cut, starts at `at`.
 pub fn is_field(s: &[u8], at: usize, tag: u8, len: usize) -> bool
     ensures { result ≡ framed tag len (drop at s.now) }
 {
-    if s.len() < at {
+    if s.len().saturating_sub(at) < 3 {
         return false;
     }
-    if s.len() - at < 3 {
-        return false;
-    }
-    if s[at] != tag {
-        return false;
-    }
-    if spell(s, at + 1, 2) != len as u64 {
-        return false;
-    }
-    len <= s.len() - at - 3
+    s[at] == tag && number(s, at + 1, 2) == len as u64 && len <= s.len() - at - 3
 }
 
 // The field of one number from lo to hi that starts at `at`.
-pub fn number_field(s: &[u8], at: usize, tag: u8, len: usize, lo: u64, hi: u64) -> FoundNumber
+pub fn number_field(s: &[u8], at: usize, tag: u8, len: usize, lo: u64, hi: u64) -> Option<u64>
     ensures { result ≡ number_field tag len lo hi (drop at s.now) }
 {
-    if WIDEST < len {
-        return FoundNumber::Not;
+    if WIDEST < len || !is_field(s, at, tag, len) {
+        return None;
     }
-    if !is_field(s, at, tag, len) {
-        return FoundNumber::Not;
-    }
-    let v = spell(s, at + 3, len);
-    if v < lo {
-        return FoundNumber::Not;
-    }
-    if hi < v {
-        return FoundNumber::Not;
-    }
-    FoundNumber::Is(v)
+    let v = number(s, at + 3, len);
+    (lo <= v && v <= hi).then_some(v)
 }
 
 // The number that 64 bits are in two's complement.
 pub fn signed(u: u64) -> i64
     ensures { result ≡ to_z w64 u }
 {
-    if u < 9_223_372_036_854_775_808 {
-        u as i64
-    } else {
-        -1 - (18_446_744_073_709_551_615 - u) as i64
-    }
+    u.cast_signed()
 }
 
 // The signed number of eight bytes from `at` on, of at most this magnitude.
-pub fn amount(s: &[u8], at: usize, most: u64) -> FoundAmount
+pub fn amount(s: &[u8], at: usize, most: u64) -> Option<i64>
     ensures { result ≡ amount_at most (drop at s.now) }
 {
-    if s.len() < at {
-        return FoundAmount::Not;
+    if s.len().saturating_sub(at) < WIDEST {
+        return None;
     }
-    if s.len() - at < WIDEST {
-        return FoundAmount::Not;
-    }
-    let z = signed(spell(s, at, WIDEST));
-    if within(z, most) {
-        FoundAmount::Is(z)
-    } else {
-        FoundAmount::Not
-    }
+    let z = signed(number(s, at, WIDEST));
+    within(z, most).then_some(z)
 }

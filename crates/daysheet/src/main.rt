@@ -2,9 +2,7 @@
 // the assessed revenue; or `refused ` and the number. Rules, section 11.
 #![tactic(auto)]
 
-mod input;
-
-use input::read_whole;
+use input_end::read_whole;
 use return_format::Return;
 use return_printout::print_return;
 use std::io;
@@ -15,8 +13,6 @@ const BYTES: usize = Return::MOST_BYTES + 1;
 fn main(rt: HostRuntime) -> io::Result<()> {
     let mut space = [0u8; BYTES];
     let n = read_whole(&mut rt.stdin(), &mut space);
-    let printed = print_return(&space[..n]);
-    let text = printed.bytes;
-    let length = printed.length;
-    rt.write_all(&text[..length])
+    let text = print_return(&space[..n]);
+    rt.write_all(&text.bytes[..text.length])
 }

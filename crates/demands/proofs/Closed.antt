@@ -7,6 +7,8 @@ use Prim.Native.Nat.{ℕ, zero, suc, ◌-◌, ◌≤◌, ◌<◌}
 use native.Mathlib.Nat.{suc-ne-zero}
 use native.Mathlib.Omega.{arith}
 use borrow.Author.Tests.{eq-eqb, ne_eqb}
+use Rattle.std.specs.Prelude.{Result}
+use Rattle.refusals.specs.declared.Refusal.{Refusal}
 use lib.ListN.{length}
 use Rattle.lists.specs.Lists.{sum_from}
 use Rattle.lists.proofs.Tests.{not_no, le_or_lt}
@@ -15,15 +17,13 @@ use Rattle.refusals.specs.Refusals.{Rows, first_applicable, accepted}
 use Rattle.refusals.proofs.Laws.{all_clear}
 use Rattle.calendar.specs.declared.YearMinutes.{YearMinutes}
 use Rattle.calendar.proofs.Only.{only_minutes}
-use Rattle.calendar.specs.Years.{first_figure, end_figure, MinutesGives}
+use Rattle.calendar.specs.Years.{MinutesGives}
 use Rattle.entries.specs.declared.Entry.{Entry}
 use Rattle.entries.specs.declared.Key.{Key}
 use Rattle.entries.specs.Row.{key_of, put_in_order, without, lost_in}
 use Rattle.entries.specs.Theorems.{closed_entries}
 use Rattle.entries.proofs.Closed.{earlier_open, closed_put, closed_without, same_lost}
 use Rattle.outage.specs.declared.Log.{Log}
-use Rattle.outage.specs.declared.Logged.{Logged}
-use Rattle.outage.specs.declared.losing.LostEnergy.{LostEnergy}
 use Rattle.outage.specs.Log.{slots, valid_log, log_entries, log_with, closed_at, lost_energy}
 use Rattle.outage.specs.Calls.{enter_rows, enter_log, cancel_rows, close_rows, LostGives}
 use Rattle.outage.proofs.LogHolding.{entries_with}
@@ -33,7 +33,8 @@ use Rattle.plan.specs.Plan.{outages_of}
 use Rattle.plan.proofs.OneByOne.{through_keeps}
 use Rattle.plan_entering.specs.Calls.{enter_plan_rows, planned_log}
 use Rattle.plan_entering.proofs.Accepted.{plan_through, plan_back}
-use Rattle.demands.specs.Log.{Call, entering, cancelling, closing, planning, PlanPromised, Promised, Turn, log_of, RanFrom, log_after, Event, happened}
+use Rattle.demands.specs.Given.{first_figure, end_figure}
+use Rattle.demands.specs.Log.{Logged, Call, entering, cancelling, closing, planning, PlanPromised, Promised, Turn, log_of, RanFrom, log_after, Event, happened}
 use Rattle.demands.specs.Closed.{ClosedStays}
 use Rattle.demands.proofs.Runs.{run_keeps}
 use Rattle.outage.proofs.Sound.{Sound, entered_sound, cancelled_sound, closed_sound, closes_forward}
@@ -111,7 +112,7 @@ module _ (log now : Log) (k : Stays log now) where
       by : (n : ℕ) → first_applicable (enter_plan_rows now p) ≡ n → Stays log r.log
       by zero h =
           subst (Stays log) (sym g.gives.2)
-          (through_keeps enter_rows enter_log (λ (l : Log) (es : List Entry). Stays log l) (λ l es e k n. outage_stays log l k e n) 1 now (planned_log now p) [] (outages_of p) k (plan_through now p h k.rows))
+          (through_keeps enter_rows enter_log (λ (l : Log) (es : List Entry). Stays log l) (λ l es e k n. outage_stays log l k e n) 1 now (planned_log now p) [] (outages_of p) k (plan_through now p h))
       by (suc n) h = subst (Stays log) (sym (g.gives.2 ∙ plan_back now p (λ z. suc-ne-zero n (sym h ∙ z)))) k
 
   call_stays : (call : Call) (r : Logged) → Promised now call r → Stays log r.log
@@ -139,11 +140,11 @@ module _ (log later : Log) (k : Stays log later) where
       by (inr l) = let z : b - a ≡ 0 = omega arith in rw z refl
 
   -- the rows are the same, and so is the figure
-  stretch_same : (a b : ℕ) → b ≤ log.closed → (r s : LostEnergy) → LostGives log a b r → LostGives later a b s → s ≡ r
+  stretch_same : (a b : ℕ) → b ≤ log.closed → (r s : Result ℕ Refusal) → LostGives log a b r → LostGives later a b s → s ≡ r
   stretch_same a b h r s p q = only_lost log a b s r (rw (k.valid, k.end, energy_same a b h) at q) p
 
-  year_same : (number : ℕ) (y z : YearMinutes) → MinutesGives number log.regime_end y → MinutesGives number later.regime_end z → end_figure y ≤ log.closed
-      → (r s : LostEnergy) → LostGives log (first_figure y) (end_figure y) r → LostGives later (first_figure z) (end_figure z) s → s ≡ r
+  year_same : (number : ℕ) (y z : Result YearMinutes Refusal) → MinutesGives number log.regime_end y → MinutesGives number later.regime_end z → end_figure y ≤ log.closed
+      → (r s : Result ℕ Refusal) → LostGives log (first_figure y) (end_figure y) r → LostGives later (first_figure z) (end_figure z) s → s ≡ r
   year_same number y z m o h r s p q =
       let is : z ≡ y = only_minutes number log.regime_end z y (rw k.end at o) m in
       stretch_same (first_figure y) (end_figure y) h r s p (rw is at q)

@@ -6,52 +6,48 @@ use Prim.Native.Nat.{ℕ, ◌+◌, ◌-◌, ◌*◌, ◌/◌, ◌^◌, ◌≤◌
 use native.Mathlib.Omega.{arith}
 use borrow.Author.Tests.{leb-true, ltb-true, ltb-false, lt-ltb}
 use lib.Dec.{leb, ltb, lit<}
-use lib.ListN.{length, drop}
-use mathlib.Core.Option.{none}
+use lib.ListN.{length, drop, replicate}
+use Rattle.std.specs.Prelude.{None, Result, Ok}
+use Rattle.refusals.specs.declared.Refusal.{Refusal}
+use Rattle.refusals.specs.declared.RefusedAt.{RefusedAt}
 use Rattle.codec.specs.Format.{field, ReadAt}
 use Rattle.return_format.specs.Form.{factors_value, required}
 use lib.IntN.{ℤ, pos, negsuc, nat_abs, ◌+ℤ◌, ◌*ℤ◌}
 use lib.Signed.{le_z}
 use Rattle.lists.proofs.Tests.{and_right, not_no}
-use Rattle.refusals.specs.Refusals.{first_applicable, answer_number, written_number, length_figure}
+use Rattle.refusals.specs.Refusals.{first_applicable, answer_number, given_or, why_alone, part_number}
 use Rattle.refusals.proofs.Laws.{all_clear, beside_accepted}
 use Rattle.refusals.proofs.Cases.{same_case}
 use Rattle.money.specs.Rounding.{on_magnitude}
 use Rattle.money.proofs.Nearest.{round_near}
 use Rattle.calendar.specs.declared.YearMinutes.{YearMinutes}
-use Rattle.calendar.specs.Years.{good_year_number, first_figure, end_figure, MinutesGives}
+use Rattle.calendar.specs.Years.{good_year_number, MinutesGives}
 use Rattle.outage.specs.declared.Log.{Log}
-use Rattle.outage.specs.declared.losing.LostEnergy.{LostEnergy}
 use Rattle.outage.specs.Log.{most_mw, good_regime_end, last_regime_end, valid_log, log_entries, lost_energy}
-use Rattle.outage.specs.Calls.{lost_figure, LostGives}
+use Rattle.outage.specs.Calls.{empty_log, LostGives}
 use Rattle.year.specs.declared.Year.{Year}
 use Rattle.year.specs.Year.{good_year}
 use Rattle.year.proofs.Says.{year_says}
 use Rattle.levels.specs.declared.Book.{Book}
-use Rattle.levels.specs.declared.measuring.Availability.{Availability}
-use Rattle.levels.specs.declared.measuring.Target.{Target}
 use Rattle.levels.specs.declared.levelling.Levels.{Levels}
 use Rattle.levels.specs.Book.{book_holds, target_of}
-use Rattle.levels.specs.Availability.{availability_in, meets_target, availability_rows, availability_number, availability_figure, AvailabilityGives, target_number, target_met, TargetGives}
-use Rattle.levels.specs.Levels.{level_of, aif_of, cap_level, floor_level, floor_of, levels_rows, levels_number, cap_figure, floor_figure, LevelsGives}
-use Rattle.revenue.specs.Revenue.{assessed_revenue, revenue_rows, revenue_number, revenue_figure}
+use Rattle.levels.specs.Availability.{availability_in, meets_target, availability_rows, AvailabilityGives, TargetGives}
+use Rattle.levels.specs.Levels.{level_of, aif_of, cap_level, floor_level, floor_of, no_levels, levels_rows, LevelsGives}
+use Rattle.revenue.specs.Revenue.{assessed_revenue, revenue_rows}
 use Rattle.balances.specs.declared.assessing.Yearly.{Yearly}
-use Rattle.balances.specs.declared.assessing.Assessment.{Assessment}
 use Rattle.balances.specs.Balance.{period_years}
-use Rattle.balances.specs.Assessment.{assess_number, assess_figures, AssessGives}
+use Rattle.balances.specs.declared.assessing.Figures.{Figures}
+use Rattle.balances.specs.Assessment.{AssessGives}
 use Rattle.balances.proofs.Licence.{starts_as, carried_forward}
 use Rattle.balances.proofs.Answered.{answered_figures, answered_near, answered_CFA}
 use Rattle.balances.proofs.NetPresent.{exact_is_sum, each_term, five_uplifts, five_terms}
 use Rattle.assessment.specs.Period.{yearly_of}
 use Rattle.assessment.proofs.Period.{period_assessed}
 use Rattle.settlement.specs.declared.medians.Period.{Period}
-use Rattle.settlement.specs.declared.medians.Gap.{Gap}
-use Rattle.settlement.specs.declared.table.Growth.{Growth}
-use Rattle.settlement.specs.declared.paying.Payment.{Payment}
 use Rattle.settlement.specs.Gap.{good_period, day_sum, hundredths, good_hundredths}
 use Rattle.settlement.specs.Growth.{growth_entries, grows_to, growth_of, paid_of}
 use Rattle.settlement.specs.Exact.{NearExact}
-use Rattle.settlement.specs.Calls.{gap_holds, gap_rows, gap_number, gap_figure, GapGives, growth_rows, growth_number, growth_figure, GrowthGives, pay_rows, pay_number, pay_figure, PayGives, settle_rows, SettleGives}
+use Rattle.settlement.specs.Calls.{gap_holds, gap_rows, GapGives, growth_rows, GrowthGives, pay_rows, PayGives, settle_rows, SettleGives}
 use Rattle.settlement.proofs.Payments.{no_half, nearest, only_nearest, passing, passes, entry_rule, entry_greatest, near_paid}
 use Rattle.codec.specs.Theorems.{Bytes}
 use Rattle.codec.specs.Theorems.{joined}
@@ -65,20 +61,20 @@ use Rattle.sheet_round_trip.specs.Sheets.{IsSheetOf}
 use Rattle.sheet_round_trip.proofs.Places.{sheet_read}
 use Rattle.sheet_round_trip.proofs.Places as sheets
 use Rattle.floats.proofs.Pounds.{out_and_back}
+use Rattle.cells.specs.Cells.{empty_slot}
+use Rattle.workbook_cells.specs.Calls.{no_cells, ExportGives, ReadCellsGives}
 use Rattle.workbook_cells.proofs.RoundTrip.{reads_back, comes_out}
-use Rattle.return_format.specs.declared.Return.{Return}
 use Rattle.return_format.specs.Return.{most_bytes, Reading, whole, refused, reading_of, is_refused, place_in, return_of, write_rows}
 use Rattle.return_round_trip.specs.Flat.{fields_of, FactorsWritten}
 use Rattle.return_round_trip.specs.Places.{RefusalPlace}
 use Rattle.return_round_trip.proofs.Places.{return_accepted, accepted_return, same_bytes, refusal_place, place_alone, longer_refused, no_factors_refused, one_place}
 use Rattle.return_round_trip.proofs.Flat.{flat, flat_whole, tags_ascend, factors_said}
 use Rattle.return_reading.specs.Reading.{ReturnGives}
-use Rattle.refusals.specs.declared.Written.{Written}
-use Rattle.refusals.specs.declared.Written.TheVariants.{Length}
 use Rattle.return_writing.specs.Written.{WriteGives}
-use Rattle.refusals.proofs.Writing.{written_answers}
 use Rattle.return_refiling.specs.Refiled.{refile_rows, RefileGives}
+use Rattle.demands.specs.Given.{first_figure, end_figure, target_met, cap_figure, floor_figure, assess_figures}
 use Rattle.demands.specs.Demand2.{IsLevel, Carried, NearSums, Demand2}
+use Rattle.demands.proofs.Given.{is_given, is_given_whole}
 use Rattle.demands.proofs.Lost.{first_is, end_is, year_lost, year_most}
 use Rattle.demands.proofs.Returns.{written_reads_back, written_length, read_writes_back}
 use Rattle.demands.proofs.PlanMessages.{plan_reads_back, plan_is, is_read, plan_writes_back, plan_refused_at, plan_one_of_three, plan_longer_is, plan_alone}
@@ -86,39 +82,42 @@ use Rattle.demands.proofs.Workbooks.{made_exact, same_gap, filled_figures}
 use Rattle.demands.proofs.Sheets.{sheet_is, sheet_reads_back, sheet_writes_back, sheet_refused_at, sheet_not_longer, sheet_cut_same}
 
 -- ---- levels
-availability_is : (book : Book) (log : Log) (number : ℕ) (r : Availability) → AvailabilityGives book log number r → availability_number r ≡ 0
-    → (y : YearMinutes) → MinutesGives number log.regime_end y → (l : LostEnergy) → LostGives log (first_figure y) (end_figure y) l
-    → availability_figure r + lost_figure l ≡ most_mw * (end_figure y - first_figure y)
+availability_is : (book : Book) (log : Log) (number : ℕ) (r : Result ℕ Refusal) → AvailabilityGives book log number r → answer_number r ≡ 0
+    → (y : Result YearMinutes Refusal) → MinutesGives number log.regime_end y → (l : Result ℕ Refusal) → LostGives log (first_figure y) (end_figure y) l
+    → given_or 0 r + given_or 0 l ≡ most_mw * (end_figure y - first_figure y)
 availability_is book log number r g n y m l k =
     let clear = all_clear (availability_rows book log number) (sym g.0 ∙ n) in
     let v : valid_log log ≡ true = not_no (valid_log log) clear.1.0 in
     let good : good_year_number number ≡ true = not_no (good_year_number number) clear.1.1.0 in
-    let is : availability_figure r ≡ most_mw * (end_figure y - first_figure y) - lost_energy (first_figure y) (end_figure y) (log_entries log) =
-    beside_accepted (availability_rows book log number) (availability_number r) (availability_figure r) (availability_in log number) 0 g.0 g.1 n
+    let is : given_or 0 r ≡ most_mw * (end_figure y - first_figure y) - lost_energy (first_figure y) (end_figure y) (log_entries log) =
+    beside_accepted (availability_rows book log number) (answer_number r) (given_or 0 r) (availability_in log number) 0 g.0 g.1 n
     ∙ rw (first_is log v number good y m, end_is log v number good y m) refl in
-    omega (arith, is, ap lost_figure (year_lost log v number good y m l k), year_most log v number good y m)
+    omega (arith, is, ap (given_or 0) (year_lost log v number good y m l k), year_most log v number good y m)
 
-target_is : (book : Book) (log : Log) (number : ℕ) (r : Target) → TargetGives book log number r → target_number r ≡ 0
-    → (a : Availability) → AvailabilityGives book log number a → target_met r ≡ leb (60 * target_of book number) (availability_figure a)
+target_is : (book : Book) (log : Log) (number : ℕ) (r : Result Bool Refusal) → TargetGives book log number r → answer_number r ≡ 0
+    → (a : Result ℕ Refusal) → AvailabilityGives book log number a → target_met r ≡ leb (60 * target_of book number) (given_or 0 a)
 target_is book log number r g n a h =
     let clear : first_applicable (availability_rows book log number) ≡ 0 = sym g.0 ∙ n in
-    beside_accepted (availability_rows book log number) (target_number r) (target_met r) (meets_target book log number) false g.0 g.1 n
+    beside_accepted (availability_rows book log number) (answer_number r) (target_met r) (meets_target book log number) false g.0 g.1 n
     ∙ ap (λ (x : ℕ). leb (60 * target_of book number) x)
-    (sym (beside_accepted (availability_rows book log number) (availability_number a) (availability_figure a) (availability_in log number) 0 h.0 h.1 (h.0 ∙ clear)))
+    (sym (beside_accepted (availability_rows book log number) (answer_number a) (given_or 0 a) (availability_in log number) 0 h.0 h.1 (h.0 ∙ clear)))
 
 is_level : (level : ℤ) (partial : ℕ) (sum : ℤ) (incentive pppi : ℕ) → level ≡ level_of partial sum incentive pppi → IsLevel level sum (partial * incentive * pppi)
 unfolding level_of
 is_level level partial sum incentive pppi e =
     record { rounded = e; near = rw e (round_near (sum *ℤ pos (partial * incentive * pppi)) 1000000000000 (lit< tt)) }
 
-module _ (book : Book) (y : Year) (log : Log) (r : Levels) (g : LevelsGives book y log r) (n : levels_number r ≡ 0) where
+module _ (book : Book) (y : Year) (log : Log) (r : Result Levels Refusal) (g : LevelsGives book y log r) (n : answer_number r ≡ 0) where
+  levels_are : given_or no_levels r ≡ record { cap = cap_level book y; floor = floor_of book y log }
+  levels_are = beside_accepted (levels_rows book y log) (answer_number r) (given_or no_levels r) (record { cap = cap_level book y; floor = floor_of book y log }) no_levels g.0 g.1 n
+
   cap_is : IsLevel (cap_figure r) (book.pcl +ℤ book.pcac +ℤ book.orac) (y.pyc * y.aic * y.pppi)
   cap_is =
       is_level (cap_figure r) y.pyc (book.pcl +ℤ book.pcac +ℤ book.orac) y.aic y.pppi
-      (beside_accepted (levels_rows book y log) (levels_number r) (cap_figure r) (cap_level book y) (pos 0) g.0 g.1 n)
+      (ap (λ (l : Levels). l.cap) levels_are)
 
   -- the target is asked with what the levels were found good
-  met_is : (t : Target) → TargetGives book log y.number t → target_met t ≡ meets_target book log y.number
+  met_is : (t : Result Bool Refusal) → TargetGives book log y.number t → target_met t ≡ meets_target book log y.number
   met_is t h =
       let clear = all_clear (levels_rows book y log) (sym g.0 ∙ n) in
       let b : book_holds book log.regime_end ≡ true = not_no (book_holds book log.regime_end) clear.0 in
@@ -126,15 +125,15 @@ module _ (book : Book) (y : Year) (log : Log) (r : Levels) (g : LevelsGives book
       let good : good_year_number y.number ≡ true = (year_says y (not_no (good_year y) clear.1.1.0)).number in
       h.1 ∙ rw (b, v, good) refl
 
-  floor_is : (t : Target) → TargetGives book log y.number t
+  floor_is : (t : Result Bool Refusal) → TargetGives book log y.number t
       → IsLevel (floor_figure r) (book.pfl +ℤ book.pcaf +ℤ book.oraf) (y.pyf * aif_of (target_met t) y.exceptional book.miss_factor * y.pppi)
   floor_is t h =
       is_level (floor_figure r) y.pyf (book.pfl +ℤ book.pcaf +ℤ book.oraf) (aif_of (target_met t) y.exceptional book.miss_factor) y.pppi
-      (beside_accepted (levels_rows book y log) (levels_number r) (floor_figure r) (floor_of book y log) (pos 0) g.0 g.2 n
+      (ap (λ (l : Levels). l.floor) levels_are
       ∙ ap (λ (met : Bool). floor_level book y (aif_of met y.exceptional book.miss_factor)) (sym (met_is t h)))
 
 -- ---- balances and the adjustment
-module _ (y : Yearly) (r : Assessment) (g : AssessGives y r) (n : assess_number r ≡ 0) where
+module _ (y : Yearly) (r : Result Figures Refusal) (g : AssessGives y r) (n : answer_number r ≡ 0) where
   figures_carried : Carried y (assess_figures r)
   figures_carried =
       subst (Carried y) (sym (answered_figures y period_years r g n)) (record { revenue = refl; cap = refl; floor = refl; wpa = refl; held = refl; adjustment = refl })
@@ -149,61 +148,61 @@ not_negative : (z : ℤ) → good_hundredths z ≡ true → pos (nat_abs z) ≡ 
 not_negative (pos k) h = refl
 not_negative (negsuc k) h = let no : ◌≡◌ {A = ℕ} 0 1 = cc in absurd (omega arith)
 
-module _ (earlier later : Period) (r : Gap) (g : GapGives earlier later r) (n : gap_number r ≡ 0) where
+module _ (earlier later : Period) (r : Result ℕ Refusal) (g : GapGives earlier later r) (n : answer_number r ≡ 0) where
   gap_clear : gap_holds earlier later ≡ true
   gap_clear = not_no (gap_holds earlier later) (all_clear (gap_rows earlier later) (sym g.0 ∙ n)).0
 
-  figure_is : gap_figure r ≡ nat_abs (hundredths (day_sum earlier) (day_sum later))
-  figure_is = beside_accepted (gap_rows earlier later) (gap_number r) (gap_figure r) (nat_abs (hundredths (day_sum earlier) (day_sum later))) 0 g.0 g.1 n
+  figure_is : given_or 0 r ≡ nat_abs (hundredths (day_sum earlier) (day_sum later))
+  figure_is = beside_accepted (gap_rows earlier later) (answer_number r) (given_or 0 r) (nat_abs (hundredths (day_sum earlier) (day_sum later))) 0 g.0 g.1 n
 
-  gap_is : pos (gap_figure r) ≡ hundredths (day_sum earlier) (day_sum later)
+  gap_is : pos (given_or 0 r) ≡ hundredths (day_sum earlier) (day_sum later)
   gap_is =
       let z = hundredths (day_sum earlier) (day_sum later) in
       let good : good_hundredths z ≡ true = and_right (good_period later) (good_hundredths z) (and_right (good_period earlier) (good_period later && good_hundredths z) gap_clear) in
       ap pos figure_is ∙ not_negative z good
 
-module _ (k : ℕ) (r : Growth) (g : GrowthGives k r) (n : growth_number r ≡ 0) where
-  entry_is : growth_figure r ≡ growth_of k
-  entry_is = beside_accepted (growth_rows k) (growth_number r) (growth_figure r) (growth_of k) 0 g.0 g.1 n
+module _ (k : ℕ) (r : Result ℕ Refusal) (g : GrowthGives k r) (n : answer_number r ≡ 0) where
+  entry_is : given_or 0 r ≡ growth_of k
+  entry_is = beside_accepted (growth_rows k) (answer_number r) (given_or 0 r) (growth_of k) 0 g.0 g.1 n
 
   in_table : k < growth_entries
   in_table = ltb-true k growth_entries (not_no (ltb k growth_entries) (all_clear (growth_rows k) (sym g.0 ∙ n)).0)
 
-  growth_rule : (growth_figure r ^ 100 * 10000 ^ k ≤ 10 ^ 900 * 10388 ^ k) × ((e : ℕ) → e ^ 100 * 10000 ^ k ≤ 10 ^ 900 * 10388 ^ k → e ≤ growth_figure r)
+  growth_rule : (given_or 0 r ^ 100 * 10000 ^ k ≤ 10 ^ 900 * 10388 ^ k) × ((e : ℕ) → e ^ 100 * 10000 ^ k ≤ 10 ^ 900 * 10388 ^ k → e ≤ given_or 0 r)
   growth_rule = (
-    passing k (growth_figure r) (ap (grows_to k) entry_is ∙ (entry_rule k in_table).0),
+    passing k (given_or 0 r) (ap (grows_to k) entry_is ∙ (entry_rule k in_table).0),
     λ e h. subst (λ (x : ℕ). e ≤ x) (sym entry_is) (entry_greatest k e in_table (passes k e h)),
   )
 
-module _ (amount : ℤ) (k : ℕ) (r : Payment) (g : PayGives amount k r) (n : pay_number r ≡ 0) where
+module _ (amount : ℤ) (k : ℕ) (r : Result ℤ Refusal) (g : PayGives amount k r) (n : answer_number r ≡ 0) where
   paid_in_table : ltb k growth_entries ≡ true
   paid_in_table = not_no (ltb k growth_entries) (all_clear (pay_rows amount k) (sym g.0 ∙ n)).0
 
-  paid_is : pay_figure r ≡ paid_of amount k
-  paid_is = beside_accepted (pay_rows amount k) (pay_number r) (pay_figure r) (paid_of amount k) (pos 0) g.0 g.1 n
+  paid_is : given_or (pos 0) r ≡ paid_of amount k
+  paid_is = beside_accepted (pay_rows amount k) (answer_number r) (given_or (pos 0) r) (paid_of amount k) (pos 0) g.0 g.1 n
 
-  payment_is : (e : Growth) → GrowthGives k e → pay_figure r ≡ on_magnitude (λ (m : ℕ). m * growth_figure e / 1000000000) amount
+  payment_is : (e : Result ℕ Refusal) → GrowthGives k e → given_or (pos 0) r ≡ on_magnitude (λ (m : ℕ). m * given_or 0 e / 1000000000) amount
   unfolding paid_of
   payment_is e h =
       let zero-too : first_applicable (growth_rows k) ≡ 0 = rw paid_in_table refl in
       paid_is ∙ ap (λ (x : ℕ). on_magnitude (λ (m : ℕ). m * x / 1000000000) amount) (sym (entry_is k e h (h.0 ∙ zero-too)))
 
-  payment_is_near : NearExact (nat_abs amount) k (nat_abs (pay_figure r))
+  payment_is_near : NearExact (nat_abs amount) k (nat_abs (given_or (pos 0) r))
   payment_is_near = subst (λ (z : ℤ). NearExact (nat_abs amount) k (nat_abs z)) (sym paid_is) (near_paid amount k (ltb-true k growth_entries paid_in_table))
 
-settled_is : (adjustment : ℤ) (measured settled : Period) (r : Payment) → SettleGives adjustment measured settled r → pay_number r ≡ 0
-    → (g : Gap) → GapGives measured settled g → PayGives adjustment (gap_figure g) r
+settled_is : (adjustment : ℤ) (measured settled : Period) (r : Result ℤ Refusal) → SettleGives adjustment measured settled r → answer_number r ≡ 0
+    → (g : Result ℕ Refusal) → GapGives measured settled g → PayGives adjustment (given_or 0 g) r
 settled_is adjustment measured settled r s n g h =
     let z = hundredths (day_sum measured) (day_sum settled) in
     let clear = all_clear (settle_rows adjustment measured settled) (sym s.0 ∙ n) in
     let holds : gap_holds measured settled ≡ true = not_no (gap_holds measured settled) clear.0 in
-    let none : gap_number g ≡ 0 = h.0 ∙ rw holds refl in
+    let none : answer_number g ≡ 0 = h.0 ∙ rw holds refl in
     let is = figure_is measured settled g h none in
     let good : good_hundredths z ≡ true = and_right (good_period settled) (good_hundredths z) (and_right (good_period measured) (good_period settled && good_hundredths z) holds) in
-    let short : ltb (gap_figure g) growth_entries ≡ true = ap (λ (x : ℕ). ltb x growth_entries) is ∙ in_range z good in
-    let zero-too : first_applicable (pay_rows adjustment (gap_figure g)) ≡ 0 = rw (short, clear.1.0) refl in (
+    let short : ltb (given_or 0 g) growth_entries ≡ true = ap (λ (x : ℕ). ltb x growth_entries) is ∙ in_range z good in
+    let zero-too : first_applicable (pay_rows adjustment (given_or 0 g)) ≡ 0 = rw (short, clear.1.0) refl in (
       n ∙ sym zero-too,
-      beside_accepted (settle_rows adjustment measured settled) (pay_number r) (pay_figure r) (paid_of adjustment (nat_abs z)) (pos 0) s.0 s.1 n
+      beside_accepted (settle_rows adjustment measured settled) (answer_number r) (given_or (pos 0) r) (paid_of adjustment (nat_abs z)) (pos 0) s.0 s.1 n
           ∙ ap (paid_of adjustment) (sym is)
           ∙ rw zero-too refl,
     )
@@ -213,32 +212,32 @@ settled_is adjustment measured settled r s n g h =
     in_range (negsuc k) e = let no : ◌≡◌ {A = ℕ} 0 1 = cc in absurd (omega arith)
 
 -- ---- the return
-module _ (bs out : List ℕ) (r : Written) (o : List ℕ) (g : RefileGives bs out r o) (n : written_number r ≡ 0) where
-  refiled_is : (r ≡ Length (length bs)) × (o ≡ bs ++ drop (length bs) out)
+module _ (bs out : List ℕ) (r : Result ℕ Refusal) (o : List ℕ) (g : RefileGives bs out r o) (n : answer_number r ≡ 0) where
+  refiled_is : (r ≡ Ok (length bs)) × (o ≡ bs ++ drop (length bs) out)
   refiled_is = (
-    same_case written_answers r (Length (length bs)) n (beside_accepted (refile_rows bs (length out)) (written_number r) (length_figure r) (length bs) 0 g.0 g.1 n),
-    beside_accepted (refile_rows bs (length out)) (written_number r) o (bs ++ drop (length bs) out) out g.0 g.2 n,
+    same_case 0 r (Ok (length bs)) n (beside_accepted (refile_rows bs (length out)) (answer_number r) (given_or 0 r) (length bs) 0 g.0 g.1 n),
+    beside_accepted (refile_rows bs (length out)) (answer_number r) o (bs ++ drop (length bs) out) out g.0 g.2 n,
   )
 
-flat_is : (y : Year) (out : List ℕ) (r : Written) (o : List ℕ) → WriteGives y out r o → written_number r ≡ 0 → o ≡ joined (fields_of y) ++ drop (length (joined (fields_of y))) out
+flat_is : (y : Year) (out : List ℕ) (r : Result ℕ Refusal) (o : List ℕ) → WriteGives y out r o → answer_number r ≡ 0 → o ≡ joined (fields_of y) ++ drop (length (joined (fields_of y))) out
 flat_is y out r o g n =
-    beside_accepted (write_rows y (length out)) (written_number r) o (return_of y ++ drop (length (return_of y)) out) out g.0 g.2 n
+    beside_accepted (write_rows y (length out)) (answer_number r) o (return_of y ++ drop (length (return_of y)) out) out g.0 g.2 n
     ∙ ap (λ (bs : List ℕ). bs ++ drop (length bs) out) (flat y)
 
-module _ (bs : List ℕ) (t : Return) (g : ReturnGives bs t) where
+module _ (bs : List ℕ) (t : Result Year RefusedAt) (g : ReturnGives bs t) where
   -- a refused reading is one at the place that is given
-  place_there : (x : Reading) → reading_of bs ≡ x → Bytes bs → (answer_number t.answer ≡ 0 → ⊥) → length bs ≤ most_bytes → RefusalPlace bs t.place × ((other : ℕ) → RefusalPlace bs other → other ≡ t.place)
+  place_there : (x : Reading) → reading_of bs ≡ x → Bytes bs → (answer_number (why_alone t) ≡ 0 → ⊥) → length bs ≤ most_bytes → RefusalPlace bs (part_number t) × ((other : ℕ) → RefusalPlace bs other → other ≡ part_number t)
   place_there (whole y) e b n h = absurd (n (g.0 ∙ ap (λ (x : Reading). cond (is_refused x) 13 0) e))
   place_there (refused why place) e b n h =
-      let f : reading_of bs ≡ refused why t.place = e ∙ ap (refused why) (sym (g.1 ∙ ap place_in e)) in
-      (refusal_place bs why t.place b h f, place_alone bs b h why t.place f)
+      let f : reading_of bs ≡ refused why (part_number t) = e ∙ ap (refused why) (sym (g.1 ∙ ap place_in e)) in
+      (refusal_place bs why (part_number t) b h f, place_alone bs b h why (part_number t) f)
 
-  no_factors_is : length bs ≤ most_bytes → {rest : ℕ × (ℕ × ℕ)} → ReadAt required bs 0 (25, rest) 23 → field 5 (factors_value 25) (drop 23 bs) ≡ none → (answer_number t.answer ≡ 13) × (t.place ≡ 23)
+  no_factors_is : length bs ≤ most_bytes → {rest : ℕ × (ℕ × ℕ)} → ReadAt required bs 0 (25, rest) 23 → field 5 (factors_value 25) (drop 23 bs) ≡ None → (answer_number (why_alone t) ≡ 13) × (part_number t ≡ 23)
   no_factors_is few head None-found =
       let e = no_factors_refused bs few head None-found in
       (g.0 ∙ ap (λ (x : Reading). cond (is_refused x) 13 0) e, g.1 ∙ ap place_in e)
 
-  longer_is : most_bytes < length bs → (answer_number t.answer ≡ 13) × (t.place ≡ most_bytes)
+  longer_is : most_bytes < length bs → (answer_number (why_alone t) ≡ 13) × (part_number t ≡ most_bytes)
   longer_is h =
       let e = longer_refused bs h in
       (g.0 ∙ ap (λ (x : Reading). cond (is_refused x) 13 0) e, g.1 ∙ ap place_in e)
@@ -258,7 +257,7 @@ demand_2 = record {
   target = target_is;
   cap = cap_is;
   floor = floor_is;
-  revenue = λ y r g n. beside_accepted (revenue_rows y) (revenue_number r) (revenue_figure r) (assessed_revenue y) (pos 0) g.0 g.1 n;
+  revenue = λ y r g n. beside_accepted (revenue_rows y) (answer_number r) (given_or (pos 0) r) (assessed_revenue y) (pos 0) g.0 g.1 n;
   starts = starts_as;
   goes_on = carried_forward;
   carried = figures_carried;
@@ -297,7 +296,7 @@ demand_2 = record {
   sheet_written_read = sheet_reads_back;
   sheet_read_written = sheet_writes_back;
   is_sheet = λ re bs b t g. (
-    λ n. record { log = t.log; sheet_of_law = sheet_is re bs b t g n },
+    λ n. record { log = given_or (empty_log re) (why_alone t); sheet_of_law = sheet_is re bs b t g n },
     λ s. g.0 ∙ sheet_accepted re bs s.log s.sheet_of_law,
   );
   sheet_same_bytes = λ re x y bs s t. sheets.same_bytes re (sheet_end_good re x bs s) x y bs s t;
@@ -314,11 +313,11 @@ demand_2 = record {
   period_exact = made_exact;
   medians_gap = same_gap;
   whole_pounds_law = out_and_back;
-  exported_read = λ amounts l p e g z r h. reads_back amounts p e r l g z h;
-  read_exported = λ cells f r h z e g. comes_out cells r e f h z g;
+  exported_read = λ amounts l p e g z r h. reads_back amounts p (given_or (replicate 28 empty_slot) e) r l (subst (ExportGives amounts p) (is_given (replicate 28 empty_slot) e z) g) h;
+  read_exported = λ cells f r h z e g. comes_out cells (given_or no_cells (why_alone r)) e f (subst (ReadCellsGives cells) (is_given_whole no_cells r z) h) g;
   filled = filled_figures;
   date = λ minute r g n. (
-    beside_accepted (print_minute_rows minute) (answer_number r.answer) r.text (text_of (moment_of minute)) (text_of []) g.0 g.1 n,
+    beside_accepted (print_minute_rows minute) (answer_number r) (given_or (text_of []) r) (text_of (moment_of minute)) (text_of []) g.0 g.1 n,
     right_date minute (ltb-false last_regime_end minute (all_clear (print_minute_rows minute) (sym g.0 ∙ n)).0),
   );
   one_minute = one_minute;

@@ -2,6 +2,7 @@
 pub mod Runs
 pub mod NotCancelled
 pub mod Slots
+pub mod Given
 pub mod Lost
 pub mod Returns
 pub mod Demand1

@@ -7,13 +7,14 @@ use native.Mathlib.Omega.{arith}
 use native.Mathlib.Nat.{suc-ne-zero, add-zero}
 use borrow.Author.Tests.{eq-eqb, ne_eqb}
 use lib.Dec.{eqb}
+use Rattle.std.specs.Prelude.{Result, Ok, Err, ⊤}
+use Rattle.refusals.specs.declared.Refusal.{Refusal}
 use Rattle.lists.specs.Lists.{total}
 use Rattle.lists.proofs.Tests.{or_false}
 use Rattle.lists.proofs.Lists.{total_append, total_keep}
-use Rattle.refusals.specs.Refusals.{first_applicable, answer_number}
+use Rattle.refusals.specs.Refusals.{first_applicable, answer_number, why_alone}
 use Rattle.entries.specs.declared.Entry.{Entry}
 use Rattle.outage.specs.declared.Log.{Log}
-use Rattle.outage.specs.declared.Logged.{Logged}
 use Rattle.entries.specs.declared.Key.{Key}
 use Rattle.entries.specs.Row.{put_in_order, has_key, without}
 use Rattle.entries.proofs.Keeping.{total_in_order}
@@ -24,7 +25,8 @@ use Rattle.plan.specs.Plan.{outages_of}
 use Rattle.plan.proofs.OneByOne.{through_keeps}
 use Rattle.plan_entering.specs.Calls.{enter_plan_rows, planned_log}
 use Rattle.plan_entering.proofs.Accepted.{plan_through, plan_back}
-use Rattle.demands.specs.Log.{Call, entering, cancelling, closing, planning, Promised, Turn, log_of, RanFrom, log_after, Event, put, taken_out, closed_up, happened, cancelled_by, cancelled_since, not_cancelled, closed_from}
+use Rattle.demands.specs.Given.{made_log}
+use Rattle.demands.specs.Log.{Logged, at_part, Call, entering, cancelling, closing, planning, Promised, Turn, log_of, RanFrom, log_after, Event, put, taken_out, closed_up, happened, cancelled_by, cancelled_since, not_cancelled, closed_from}
 use Rattle.outage.proofs.LogHolding.{entries_with, log_holding_valid}
 use Rattle.demands.specs.Runs.{events_of}
 use Rattle.demands.proofs.Runs.{run_keeps}
@@ -160,7 +162,7 @@ module _ (regime_end : ℕ) (log : Log) (before : List Event) (k : Agrees regime
   planned_by : (p : Plan) (n : ℕ) → first_applicable (enter_plan_rows log p) ≡ n → Agrees regime_end (planned_log log p) (before ++ cond (eqb (first_applicable (enter_plan_rows log p)) 0) (map put (outages_of p)) [])
   planned_by p zero h =
       rw (eq-eqb (first_applicable (enter_plan_rows log p)) 0 h)
-      (through_keeps enter_rows enter_log (AgreesWith regime_end before) (outage_in regime_end before) 1 log (planned_log log p) [] (outages_of p) (rw append-nil k) (plan_through log p h k.sound.rows))
+      (through_keeps enter_rows enter_log (AgreesWith regime_end before) (outage_in regime_end before) 1 log (planned_log log p) [] (outages_of p) (rw append-nil k) (plan_through log p h))
   planned_by p (suc n) h =
       rw (not_done regime_end log before k (first_applicable (enter_plan_rows log p)) n h, plan_back log p (λ z. suc-ne-zero n (sym h ∙ z))) (nothing_done regime_end log before k)
 
@@ -169,11 +171,16 @@ module _ (regime_end : ℕ) (log : Log) (before : List Event) (k : Agrees regime
       → Agrees regime_end next (before ++ cond (eqb n 0) events []) → Agrees regime_end r.log (before ++ cond (eqb (answer_number r.answer) 0) events [])
   as_given r n next events g s = rw (g.0, g.1) s
 
+  -- without the part it is the answer
+  part_alone : (part : ℕ) (a : Result ⊤ Refusal) → why_alone (at_part part a) ≡ a
+  part_alone part (Ok done) = refl
+  part_alone part (Err why) = refl
+
   pub call_agrees : (call : Call) (r : Logged) → Promised log call r → Agrees regime_end r.log (before ++ happened (call, r))
   call_agrees (entering e) r g = as_given r (first_applicable (enter_rows log e)) (enter_log log e) (put e ∷ []) g (entered_by regime_end log before k e (first_applicable (enter_rows log e)) refl)
   call_agrees (cancelling s) r g = as_given r (first_applicable (cancel_rows log s)) (cancel_log log s) (taken_out s ∷ []) g (cancelled_by_law regime_end log before k s (first_applicable (cancel_rows log s)) refl)
   call_agrees (closing m) r g = as_given r (first_applicable (close_rows log m)) (close_log log m) (closed_up m ∷ []) g (closed_by regime_end log before k m (first_applicable (close_rows log m)) refl)
-  call_agrees (planning p) r g = as_given r (first_applicable (enter_plan_rows log p)) (planned_log log p) (map put (outages_of p)) (g.gives.0, g.gives.2) (planned_by p (first_applicable (enter_plan_rows log p)) refl)
+  call_agrees (planning p) r g = as_given r (first_applicable (enter_plan_rows log p)) (planned_log log p) (map put (outages_of p)) (sym (ap answer_number (part_alone g.outage r.answer)) ∙ g.gives.0, g.gives.2) (planned_by p (first_applicable (enter_plan_rows log p)) refl)
 
 -- ---- where every log starts
 abbrev pub end_made : ℕ → ℕ
@@ -195,7 +202,7 @@ empty_agrees regime_end = by (good_regime_end regime_end) refl
     by false g = rw g (fresh last_regime_end refl)
 
 -- ---- any run
-pub run_agrees : (regime_end : ℕ) (made : Logged) → EmptyGives regime_end made → (turns : List Turn) → RanFrom made.log turns
-    → Agrees (end_made regime_end) (log_after made.log turns) (events_of happened turns)
+pub run_agrees : (regime_end : ℕ) (made : Result Log Refusal) → EmptyGives regime_end made → (turns : List Turn) → RanFrom (made_log made) turns
+    → Agrees (end_made regime_end) (log_after (made_log made) turns) (events_of happened turns)
 run_agrees regime_end made m turns g =
-    run_keeps Promised log_of happened (Agrees (end_made regime_end)) (call_agrees (end_made regime_end)) turns made.log [] (rw m.1 (empty_agrees regime_end)) g
+    run_keeps Promised log_of happened (Agrees (end_made regime_end)) (call_agrees (end_made regime_end)) turns (made_log made) [] (rw m.1 (empty_agrees regime_end)) g

@@ -2,17 +2,18 @@
 -- a plan counts as its entries in order and closing alters no entry, the log holds exactly the entries accepted and not since cancelled, in order of start, no minute losing more than rated
 -- capacity. Cut any stretch of the regime at any minute, midnight or year end included: the lost energy of the two parts adds to that of the whole,
 -- and the whole equals the minute-by-minute sum over those entries. So no year loses more than rated capacity times its minutes.
-use Rattle.std.specs.Prelude.{◌≡◌, true, cond, List, ◌⊎◌, ℕ, ◌+◌, ◌-◌, ◌*◌, ◌<◌, ◌≤◌, length}
+use Rattle.std.specs.Prelude.{◌≡◌, true, cond, List, ◌⊎◌, ℕ, ◌+◌, ◌-◌, ◌*◌, ◌<◌, ◌≤◌, length, Result, Ok}
+use Rattle.refusals.specs.declared.Refusal.{Refusal}
+use Rattle.refusals.specs.Refusals.{answer_number, given_or}
 use Rattle.lists.specs.Lists.{sum_from}
 use Rattle.calendar.specs.declared.YearMinutes.{YearMinutes}
-use Rattle.calendar.specs.Years.{minutes_number, first_figure, end_figure, MinutesGives}
+use Rattle.calendar.specs.Years.{MinutesGives}
 use Rattle.entries.specs.declared.Entry.{Entry}
 use Rattle.entries.specs.Row.{lost_in, has_room}
 use Rattle.outage.specs.declared.Log.{Log}
-use Rattle.outage.specs.declared.losing.LostEnergy.{LostEnergy}
-use Rattle.outage.specs.declared.losing.LostEnergy.TheVariants.{MwMinutes}
 use Rattle.outage.specs.Log.{slots, most_mw, good_regime_end, last_regime_end, zero_entry, valid_log, log_entries}
-use Rattle.outage.specs.Calls.{lost_figure, LostGives}
+use Rattle.outage.specs.Calls.{LostGives}
+use Rattle.demands.specs.Given.{first_figure, end_figure}
 use Rattle.demands.specs.Log.{times_in, slot}
 
 -- of the regime end that the empty log was asked for, the log after the run, the entries accepted and not since cancelled, and the
@@ -42,11 +43,11 @@ pub record Demand3 (regime_end : ℕ) (log : Log) (es : List Entry) (closed : �
   -- a slot that holds no entry is zero
   pub free : (i : ℕ) → log.count ≤ i → i < slots → slot log i ≡ zero_entry
   -- "the whole equals the minute-by-minute sum over those entries", as `lost_energy` answers
-  pub minutes : (a b : ℕ) → a ≤ b → b ≤ log.regime_end → (r : LostEnergy) → LostGives log a b r → r ≡ MwMinutes (sum_from a (b - a) (lost_in es))
+  pub minutes : (a b : ℕ) → a ≤ b → b ≤ log.regime_end → (r : Result ℕ Refusal) → LostGives log a b r → r ≡ Ok (sum_from a (b - a) (lost_in es))
   -- "the lost energy of the two parts adds to that of the whole"
-  pub cut : (a m b : ℕ) → a ≤ m → m ≤ b → b ≤ log.regime_end → (first second whole : LostEnergy)
-      → LostGives log a m first → LostGives log m b second → LostGives log a b whole → lost_figure first + lost_figure second ≡ lost_figure whole
+  pub cut : (a m b : ℕ) → a ≤ m → m ≤ b → b ≤ log.regime_end → (first second whole : Result ℕ Refusal)
+      → LostGives log a m first → LostGives log m b second → LostGives log a b whole → given_or 0 first + given_or 0 second ≡ given_or 0 whole
   -- "no year loses more than rated capacity times its minutes", by the minutes that `year_minutes` gives
-  pub year : (number : ℕ) (y : YearMinutes) → MinutesGives number log.regime_end y → minutes_number y ≡ 0
-      → (r : LostEnergy) → LostGives log (first_figure y) (end_figure y) r
-      → (r ≡ MwMinutes (lost_figure r)) × (lost_figure r ≤ most_mw * (end_figure y - first_figure y))
+  pub year : (number : ℕ) (y : Result YearMinutes Refusal) → MinutesGives number log.regime_end y → answer_number y ≡ 0
+      → (r : Result ℕ Refusal) → LostGives log (first_figure y) (end_figure y) r
+      → (r ≡ Ok (given_or 0 r)) × (given_or 0 r ≤ most_mw * (end_figure y - first_figure y))

@@ -1,4 +1,5 @@
 -- The demands, a record each, and what they speak of. No contract is stated by them; theorems say them of what the calls promise.
+pub mod Given
 pub mod Runs
 pub mod Log
 pub mod Demand1

@@ -1,10 +1,11 @@
 -- Calls on the log, their results, and what calls and results say of the entries that should be held.
-use Rattle.std.specs.Prelude.{Bool, false, cond, ◌||◌, List, [], ◌∷◌, map, ℕ, eqb, get_or}
+use Rattle.std.specs.Prelude.{Bool, false, cond, ◌||◌, List, [], ◌∷◌, map, ℕ, eqb, get_or, Result, Ok, Err, ⊤}
 use Rattle.lists.specs.Lists.{total}
+use Rattle.refusals.specs.declared.Refusal.{Refusal}
+use Rattle.refusals.specs.declared.RefusedAt.{RefusedAt}
 use Rattle.refusals.specs.Refusals.{answer_number}
 use Rattle.entries.specs.declared.Entry.{Entry}
 use Rattle.outage.specs.declared.Log.{Log}
-use Rattle.outage.specs.declared.Logged.{Logged}
 use Rattle.entries.specs.declared.Key.{Key}
 use Rattle.entries.specs.Row.{zero_entry, same_entry, has_key}
 use Rattle.outage.specs.Calls.{EnterGives, CancelGives, CloseGives}
@@ -20,16 +21,26 @@ pub data Call : Type 0 where
   closing : ℕ → Call
   planning : Plan → Call
 
--- the contract of `enter_plan`, of the log and the answer: it gives the number of an outage beside them
+-- what a call on a log answers, and the log after it
+pub record Logged : Type 0 where
+  pub answer : Result ⊤ Refusal
+  pub log : Log
+
+-- an answer with the part at which it is refused
+abbrev pub at_part : ℕ → Result ⊤ Refusal → Result ⊤ RefusedAt
+at_part part (Ok done) = Ok done
+at_part part (Err why) = Err (record { why = why; at = part })
+
+-- the contract of `enter_plan`, of the log and the answer: a refusal has the number of an outage with it
 pub record PlanPromised (log : Log) (p : Plan) (r : Logged) : Type 0 where
   pub outage : ℕ
-  pub gives : EnterPlanGives log p (record { log = r.log; answer = r.answer; outage = outage })
+  pub gives : EnterPlanGives log p (at_part outage r.answer) r.log
 
 -- what a call promises of its result: the contracts of `enter`, `cancel`, `close` and `enter_plan`
 abbrev pub Promised : Log → Call → Logged → Type 0
-Promised log (entering e) r = EnterGives log e r
-Promised log (cancelling key) r = CancelGives log key r
-Promised log (closing minute) r = CloseGives log minute r
+Promised log (entering e) r = EnterGives log e r.answer r.log
+Promised log (cancelling key) r = CancelGives log key r.answer r.log
+Promised log (closing minute) r = CloseGives log minute r.answer r.log
 Promised log (planning p) r = PlanPromised log p r
 
 -- a call and its result

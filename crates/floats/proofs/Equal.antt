@@ -1,8 +1,8 @@
--- What `==`, `<`, `<=` and a cut say of floats whose numbers are known. Assumes nothing.
-use Rattle.std.proofs.Common.{◌≡◌, ℕ, zero, suc, ◌+◌, ◌-◌, ◌*◌, ◌/◌, ◌^◌, ◌<◌, min, Bool, true, false, ◌||◌, T, eqb, ltb, ◌⊎◌, pos, neg_ℤ, sym, refl, ap, ◌∙◌, subst, inl, inr, true≢false, lt_irrefl, mul-lt-mul_of_pos_right, mul-pos, zero-mul, mul-one, mul_right_comm, mul-div_cancel, arith, eqb→eq, lt→ltb}
+-- What `==` and a cut say of floats whose numbers are known. Assumes nothing.
+use Rattle.std.proofs.Common.{◌≡◌, ℕ, zero, suc, ◌-◌, ◌*◌, ◌/◌, ◌^◌, ◌<◌, min, Bool, true, false, ◌||◌, T, eqb, ◌⊎◌, pos, neg_ℤ, sym, refl, ap, ◌∙◌, subst, inl, inr, true≢false, lt_irrefl, mul-pos, zero-mul, mul-one, mul_right_comm, mul-div_cancel, arith, eqb→eq}
 use mathlib.Core.Bool.{beq}
 use native.Mathlib.Nat.{eq_of_mul-eq-mul_right}
-use lib.Ieee.{Float, nan, inf, fin, up, down, eq, lt, le, to_unsigned, to_signed}
+use lib.Ieee.{Float, nan, inf, fin, up, down, eq, to_unsigned, to_signed}
 use lib.Ieee.Fits.{down_pos, and_l, and_r, and_i, eq→eqb}
 use lib.Ieee.Digits.{Equals}
 use lib.Ieee.Exact.{HasValue}
@@ -97,27 +97,9 @@ equal_zeros (fin t m e) p =
     and_i (eqb (0 * down e) (m * up e * 1)) (beq false t || eqb (0 * down e) 0) (eq→eqb {a = 0 * down e} {b = m * up e * 1} (sym p))
     (or_second (beq false t) (eqb (0 * down e) 0) (eq→eqb {a = 0 * down e} {b = 0} (zero-mul (down e))))
 
--- ---- the tests before a cut, and the cut, of a whole number
+-- ---- the cut of a whole number
 bare : (x a d : ℕ) → x * 1 ≡ a * d → x ≡ a * d
 bare x a d h = sym (mul-one x) ∙ h
-
-over_one : (k j : ℕ) → 0 < k → 0 < 1 * k + j
-over_one k j h = omega arith
-
-pub over : (x : Float) (a : ℕ) → HasValue x false a 1 → T (lt (fin true 1 (pos 0)) x)
-unfolding lt
-over nan a p = absurd p
-over (inf _) a p = absurd p
-over (fin true n d) a p = absurd (true≢false p.0)
-over (fin false n d) a p = lt→ltb 0 (1 * down d + n * up d * 1) (over_one (down d) (n * up d * 1) (down_pos d))
-
-pub under : (x : Float) (a : ℕ) → a < 2 ^ 64 → HasValue x false a 1 → T (lt x (fin false 1 (pos 64)))
-unfolding lt
-under nan a h p = absurd p
-under (inf _) a h p = absurd p
-under (fin true n d) a h p = absurd (true≢false p.0)
-under (fin false n d) a h p =
-    lt→ltb (n * up d * 1) (1 * 2 ^ 64 * down d) (subst (λ (k : ℕ). k < 1 * 2 ^ 64 * down d) (sym p.1) (mul-lt-mul_of_pos_right h (down_pos d)))
 
 whole_part : (m d a : ℕ) → 0 < d → m * 1 ≡ a * d → m / d ≡ a
 whole_part m d a D p = ap (λ (k : ℕ). k / d) (bare m a d p) ∙ mul-div_cancel a D
@@ -133,34 +115,6 @@ cut (fin false n d) a h p = ap (λ (k : ℕ). min k (2 ^ 64 - 1)) (whole_part (n
     low k l = omega arith
 
 -- ---- the same with a sign
-shorter : (m d a : ℕ) → 0 < d → a < 2 ^ 63 → m * 1 ≡ a * d → m * 1 < 1 * 2 ^ 63 * d
-shorter m d a D h p = subst (λ (k : ℕ). k < 1 * 2 ^ 63 * d) (sym p) (mul-lt-mul_of_pos_right h D)
-
-wide : (d : ℕ) → 0 < d → 0 < 1 * 2 ^ 63 * d
-wide d h = omega arith
-
-either_side : (j k : ℕ) → 0 < k → (0 < j + k) × (0 < k + j)
-either_side j k h = (omega arith, omega arith)
-
-pub not_below : (x : Float) (a : ℕ) → a < 2 ^ 63 → Equals x a 1 → T (le (fin true 1 (pos 63)) x)
-unfolding le lt
-not_below nan a h p = absurd p
-not_below (inf _) a h p = absurd p
-not_below (fin true m e) a h p =
-    or_first (ltb (m * up e * 1) (1 * 2 ^ 63 * down e)) (eq (fin true 1 (pos 63)) (fin true m e))
-    (lt→ltb (m * up e * 1) (1 * 2 ^ 63 * down e) (shorter (m * up e) (down e) a (down_pos e) h p))
-not_below (fin false m e) a h p =
-    or_first (ltb 0 (1 * 2 ^ 63 * down e + m * up e * 1)) (eq (fin true 1 (pos 63)) (fin false m e))
-    (lt→ltb 0 (1 * 2 ^ 63 * down e + m * up e * 1) (either_side (m * up e * 1) (1 * 2 ^ 63 * down e) (wide (down e) (down_pos e))).1)
-
-pub below : (x : Float) (a : ℕ) → a < 2 ^ 63 → Equals x a 1 → T (lt x (fin false 1 (pos 63)))
-unfolding lt
-below nan a h p = absurd p
-below (inf _) a h p = absurd p
-below (fin false m e) a h p = lt→ltb (m * up e * 1) (1 * 2 ^ 63 * down e) (shorter (m * up e) (down e) a (down_pos e) h p)
-below (fin true m e) a h p =
-    lt→ltb 0 (m * up e * 1 + 1 * 2 ^ 63 * down e) (either_side (m * up e * 1) (1 * 2 ^ 63 * down e) (wide (down e) (down_pos e))).0
-
 pub cut_positive : (x : Float) (a : ℕ) → a < 2 ^ 63 → HasValue x false a 1 → to_signed 63 x ≡ pos a
 unfolding to_signed
 cut_positive nan a h p = absurd p

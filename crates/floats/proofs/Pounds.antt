@@ -1,8 +1,10 @@
 -- Whole pounds and floats: out exactly, and back by a cut that is compared. Assumes nothing.
 use Rattle.std.proofs.Common.{◌≡◌, ℕ, zero, suc, ◌^◌, ◌<◌, ◌≤◌, Bool, true, false, cond, T, leb, ℤ, pos, negsuc, nat_abs, sym, refl, ap, ◌∙◌, subst, true≢false, arith, ltb-false, le-ltb, le-leb, leb-true}
-use mathlib.Core.Option.{Option, some, none}
+use Rattle.std.specs.Prelude.{Option, Some, None}
+use Rattle.std.specs.Bool.{then_some}
+use Rattle.std.proofs.lemmas.Option.{none-some, same_Some}
 use lib.Signed.{lt_z}
-use lib.Ieee.{Float, nan, inf, fin, binary64, fits, of_int, eq, lt, le, to_signed}
+use lib.Ieee.{Float, nan, inf, fin, binary64, fits, of_int, eq, to_signed}
 use lib.Ieee.Fits.{of_int-fits}
 use lib.Ieee.Bits.{is_true}
 use lib.Ieee.Back.{whole_unique}
@@ -10,47 +12,47 @@ use lib.Ieee.Digits.{Equals}
 use lib.Ieee.Exact.{HasValue}
 use Rattle.floats.specs.Floats.{signed, whole_in, within, most_pounds, whole_pounds}
 use Rattle.floats.proofs.Exactly.{whole}
-use Rattle.floats.proofs.Equal.{size, value, equal, equal_zeros, not_below, below, cut_positive, cut_negative}
-use Rattle.floats.proofs.Times.{Says, says, times_is, some_is, not_some, not_positive}
+use Rattle.floats.proofs.Equal.{size, value, equal, equal_zeros, cut_positive, cut_negative}
+use Rattle.floats.proofs.Times.{Says, says, times_is, not_positive}
 
 -- ---- out: the float of a whole number says that number
-of_signed : (s : Bool) (a : ℕ) → a < 2 ^ 53 → whole_in (of_int binary64 (signed s a)) ≡ some (signed s a)
+of_signed : (s : Bool) (a : ℕ) → a < 2 ^ 53 → whole_in (of_int binary64 (signed s a)) ≡ Some (signed s a)
 unfolding of_int
 of_signed false a h = times_is (of_int binary64 (pos a)) false a 1 (whole false a h)
 of_signed true zero h = times_is (of_int binary64 (pos 0)) false 0 1 (whole false 0 h)
 of_signed true (suc n) h = times_is (of_int binary64 (negsuc n)) true (suc n) 1 (whole true (suc n) h)
 
-pub out_whole : (z : ℤ) → nat_abs z ≤ most_pounds → whole_in (of_int binary64 z) ≡ some z
+pub out_whole : (z : ℤ) → nat_abs z ≤ most_pounds → whole_in (of_int binary64 z) ≡ Some z
 out_whole (pos n) h = of_signed false n (omega arith)
 out_whole (negsuc n) h = of_signed true (suc n) (omega arith)
 
-within_some : (most : ℕ) (z : ℤ) → nat_abs z ≤ most → within most (some z) ≡ some z
+within_some : (most : ℕ) (z : ℤ) → nat_abs z ≤ most → within most (Some z) ≡ Some z
 within_some most z h = rw (le-leb (nat_abs z) most h) refl
 
 -- whole pounds go out and come back without loss
-pub out_and_back : (z : ℤ) → nat_abs z ≤ most_pounds → whole_pounds (of_int binary64 z) ≡ some z
+pub out_and_back : (z : ℤ) → nat_abs z ≤ most_pounds → whole_pounds (of_int binary64 z) ≡ Some z
 out_and_back z h = ap (within most_pounds) (out_whole z h) ∙ within_some most_pounds z h
 
 -- ---- what is within a limit is found, and small
 pub record Within (most : ℕ) (found : Option ℤ) (z : ℤ) : Type 0 where
-  pub is : found ≡ some z
+  pub is : found ≡ Some z
   pub small : nat_abs z ≤ most
 
-pub within_is : (most : ℕ) (found : Option ℤ) (z : ℤ) → within most found ≡ some z → Within most found z
-within_is most none z h = absurd (not_some h)
-within_is most (some y) z h = by (leb (nat_abs y) most) refl h
+pub within_is : (most : ℕ) (found : Option ℤ) (z : ℤ) → within most found ≡ Some z → Within most found z
+within_is most None z h = absurd (none-some _ h)
+within_is most (Some y) z h = by (leb (nat_abs y) most) refl h
   where
-    by : (b : Bool) → leb (nat_abs y) most ≡ b → cond b (some y) none ≡ some z → Within most (some y) z
-    by false t h = absurd (not_some h)
-    by true t h = record { is = h; small = subst (λ (v : ℤ). nat_abs v ≤ most) (some_is h) (leb-true (nat_abs y) most t) }
+    by : (b : Bool) → leb (nat_abs y) most ≡ b → cond b (Some y) None ≡ Some z → Within most (Some y) z
+    by false t h = absurd (none-some _ h)
+    by true t h = record { is = h; small = subst (λ (v : ℤ). nat_abs v ≤ most) (same_Some _ _ h) (leb-true (nat_abs y) most t) }
 
 -- where a test fails that every such number passes, there is none
-pub no_pounds : (x : Float) → ((z : ℤ) → nat_abs z ≤ most_pounds → Says x 1 z → ⊥) → whole_pounds x ≡ none
+pub no_pounds : (x : Float) → ((z : ℤ) → nat_abs z ≤ most_pounds → Says x 1 z → ⊥) → whole_pounds x ≡ None
 no_pounds x never = by (whole_pounds x) refl
   where
-    by : (found : Option ℤ) → whole_pounds x ≡ found → found ≡ none
-    by none e = refl
-    by (some z) e = let w = within_is most_pounds (whole_in x) z e in absurd (never z w.small (says x 1 z w.is))
+    by : (found : Option ℤ) → whole_pounds x ≡ found → found ≡ None
+    by None e = refl
+    by (Some z) e = let w = within_is most_pounds (whole_in x) z e in absurd (never z w.small (says x 1 z w.is))
 
 -- ---- what the tests and the cut make of a number
 sized : (x : Float) (s : Bool) (a : ℕ) → HasValue x s a 1 → Equals x a 1
@@ -74,13 +76,13 @@ same_signed x true (suc n) h p = equal (of_int binary64 (negsuc n)) x true (suc 
 same : (x : Float) (z : ℤ) → nat_abs z ≤ most_pounds → Says x 1 z → T (eq (of_int binary64 z) x)
 same x z h s = subst (λ (v : ℤ). T (eq (of_int binary64 v) x)) s.is (same_signed x s.sign (nat_abs z) (omega arith) s.has)
 
-either_zero : (x : Float) → Equals x 0 1 → whole_in x ≡ some (pos 0)
+either_zero : (x : Float) → Equals x 0 1 → whole_in x ≡ Some (pos 0)
 either_zero nan p = absurd p
 either_zero (inf _) p = absurd p
 either_zero (fin false m e) p = times_is (fin false m e) false 0 1 (refl, p)
 either_zero (fin true m e) p = times_is (fin true m e) true 0 1 (refl, p)
 
-found_whole : (x : Float) (z : ℤ) → nat_abs z ≤ most_pounds → T (eq (of_int binary64 z) x) → whole_in x ≡ some z
+found_whole : (x : Float) (z : ℤ) → nat_abs z ≤ most_pounds → T (eq (of_int binary64 z) x) → whole_in x ≡ Some z
 unfolding of_int
 found_whole x (pos zero) h t = either_zero x (size (of_int binary64 (pos 0)) x false 0 1 (whole false 0 (omega arith)) t)
 found_whole x (pos (suc n)) h t =
@@ -106,37 +108,39 @@ refuted b t e = subst T e t
 
 -- ---- the ways out of `whole_of`: n is the cut, w the same as the machine reads it back
 module _ (x : Float) where
-  pub too_low : le (fin true 1 (pos 63)) x ≡ false → whole_pounds x ≡ none
-  too_low e = no_pounds x (λ z h s. refuted (le (fin true 1 (pos 63)) x) (not_below x (nat_abs z) (omega arith) (sized x s.sign (nat_abs z) s.has)) e)
-
-  pub too_high : lt x (fin false 1 (pos 63)) ≡ false → whole_pounds x ≡ none
-  too_high e = no_pounds x (λ z h s. refuted (lt x (fin false 1 (pos 63))) (below x (nat_abs z) (omega arith) (sized x s.sign (nat_abs z) s.has)) e)
-
   module _ (n w : ℤ) (back : w ≡ n) (cut : n ≡ to_signed 63 x) where
     cut_back : (z : ℤ) → nat_abs z ≤ most_pounds → Says x 1 z → w ≡ z
     cut_back z h s = back ∙ cut ∙ cut_is x z h s
 
-    pub too_small : lt_z w (negsuc 29999999999) ≡ true → whole_pounds x ≡ none
+    pub too_small : lt_z w (negsuc 29999999999) ≡ true → whole_pounds x ≡ None
     too_small e =
         no_pounds x (λ z h s. true≢false (sym e ∙ ap (λ (v : ℤ). lt_z v (negsuc 29999999999)) (cut_back z h s) ∙ not_less z h))
 
-    pub too_large : lt_z (pos 30000000000) w ≡ true → whole_pounds x ≡ none
+    pub too_large : lt_z (pos 30000000000) w ≡ true → whole_pounds x ≡ None
     too_large e = no_pounds x (λ z h s. true≢false (sym e ∙ ap (λ (v : ℤ). lt_z (pos 30000000000) v) (cut_back z h s) ∙ not_more z h))
 
-    pub not_whole : (y : Float) → y ≡ of_int binary64 w → eq y x ≡ false → whole_pounds x ≡ none
+    not_whole : (y : Float) → y ≡ of_int binary64 w → eq y x ≡ false → whole_pounds x ≡ None
     not_whole y f e =
         no_pounds x
         (λ z h s. refuted (eq y x) (subst (λ (v : Float). T (eq v x)) (sym (f ∙ ap (of_int binary64) (cut_back z h s))) (same x z h s)) e)
 
-pub is_whole : (x y : Float) (w : ℤ) → y ≡ of_int binary64 w → lt_z w (negsuc 29999999999) ≡ false → lt_z (pos 30000000000) w ≡ false
-    → eq y x ≡ true → whole_pounds x ≡ some w
-is_whole x y w f l h e =
-    let small = in_range w l h in
-    ap (within most_pounds) (found_whole x w small (subst (λ (v : Float). T (eq v x)) f (subst T (sym e) tt)))
-    ∙ within_some most_pounds w small
+    is_whole : (y : Float) → y ≡ of_int binary64 w → lt_z w (negsuc 29999999999) ≡ false → lt_z (pos 30000000000) w ≡ false → eq y x ≡ true
+        → whole_pounds x ≡ Some w
+    is_whole y f l h e =
+        let small = in_range w l h in
+        ap (within most_pounds) (found_whole x w small (subst (λ (v : Float). T (eq v x)) f (subst T (sym e) tt)))
+        ∙ within_some most_pounds w small
+
+    pub whole_test : (y : Float) → y ≡ of_int binary64 w → lt_z w (negsuc 29999999999) ≡ false → lt_z (pos 30000000000) w ≡ false
+        → then_some (eq y x) w ≡ whole_pounds x
+    whole_test y f l h = by (eq y x) refl
+      where
+        by : (same : Bool) → eq y x ≡ same → then_some same w ≡ whole_pounds x
+        by true e = sym (is_whole y f l h e)
+        by false e = sym (not_whole y f e)
 
 -- ---- back and out again: a float that says a number but 0 is that number's
-pub same_float : (x : Float) (z : ℤ) → T (fits binary64 x) → whole_pounds x ≡ some z → (z ≡ pos 0 → ⊥) → of_int binary64 z ≡ x
+pub same_float : (x : Float) (z : ℤ) → T (fits binary64 x) → whole_pounds x ≡ Some z → (z ≡ pos 0 → ⊥) → of_int binary64 z ≡ x
 same_float x z f e nonzero =
     let w = within_is most_pounds (whole_in x) z e in
     let s = says x 1 z w.is in
@@ -159,16 +163,16 @@ unfolding of_int fits
 zero_float =
     whole_unique binary64 (of_int binary64 (pos 0)) (fin false 0 (pos 0)) false 0 (of_int-fits binary64 (pos 0)) tt (whole false 0 (omega arith)) (refl, refl)
 
-pub nought : (x : Float) → whole_pounds x ≡ some (pos 0) → eq (fin false 0 (pos 0)) x ≡ true
+pub nought : (x : Float) → whole_pounds x ≡ Some (pos 0) → eq (fin false 0 (pos 0)) x ≡ true
 nought x e =
     let s = says x 1 (pos 0) (within_is most_pounds (whole_in x) (pos 0) e).is in
     is_true (eq (fin false 0 (pos 0)) x) (equal_zeros x (sized x s.sign 0 s.has))
 
-pub not_nought : (x : Float) (z : ℤ) → whole_pounds x ≡ some z → (z ≡ pos 0 → ⊥) → eq (fin false 0 (pos 0)) x ≡ false
+pub not_nought : (x : Float) (z : ℤ) → whole_pounds x ≡ Some z → (z ≡ pos 0 → ⊥) → eq (fin false 0 (pos 0)) x ≡ false
 not_nought x z e nonzero = by (eq (fin false 0 (pos 0)) x) refl
   where
     by : (b : Bool) → eq (fin false 0 (pos 0)) x ≡ b → b ≡ false
     by false t = refl
     by true t =
         let zero_is = either_zero x (size (fin false 0 (pos 0)) x false 0 1 (refl, refl) (subst T (sym t) tt)) in
-        absurd (nonzero (sym (some_is (sym zero_is ∙ (within_is most_pounds (whole_in x) z e).is))))
+        absurd (nonzero (sym (same_Some _ _ (sym zero_is ∙ (within_is most_pounds (whole_in x) z e).is))))

@@ -1,12 +1,7 @@
 -- What a 64-bit float says, exactly: rules 19.1 and 19.2. A finite float is m times a power of two, `up e` over `down e`.
-use Rattle.std.specs.Prelude.{ℕ, ◌*◌, ◌/◌, ◌%◌, Bool, true, false, cond, ◌&&◌, ℤ, pos, negsuc, neg_ℤ, ◌==◌, nat_le, unsigned_abs, Float}
-use Rattle.std.proofs.Math.Option.{Option, some, none}
+use Rattle.std.specs.Prelude.{ℕ, ◌*◌, ◌/◌, ◌%◌, Bool, true, false, cond, ◌&&◌, ℤ, pos, negsuc, neg_ℤ, ◌==◌, nat_le, unsigned_abs, Float, Option, Some, None}
 use Rattle.std.specs.Float.{nan, inf, fin}
 use Rattle.std.specs.Float.Ieee.{up, down}
-use Rattle.floats.specs.declared.Whole.{Whole}
-use Rattle.floats.specs.declared.Whole.TheVariants as whole
-use Rattle.floats.specs.declared.Halves.{Halves}
-use Rattle.floats.specs.declared.Halves.TheVariants as halves
 
 -- a size with its sign: minus zero is 0
 abbrev pub signed : Bool → ℕ → ℤ
@@ -15,9 +10,9 @@ signed true n = neg_ℤ (pos n)
 
 -- rule 19.1: c times what a float says, where that is a whole number
 unfoldable pub times_of : ℕ → Float → Option ℤ
-times_of c nan = none
-times_of c (inf s) = none
-times_of c (fin s m e) = cond (m * up e * c % down e == 0) (some (signed s (m * up e * c / down e))) none
+times_of c nan = None
+times_of c (inf s) = None
+times_of c (fin s m e) = cond (m * up e * c % down e == 0) (Some (signed s (m * up e * c / down e))) None
 
 -- the whole number that it is
 abbrev pub whole_in : Float → Option ℤ
@@ -25,13 +20,13 @@ whole_in x = times_of 1 x
 
 -- ---- in a range
 abbrev pub within : ℕ → Option ℤ → Option ℤ
-within most none = none
-within most (some z) = cond (nat_le (unsigned_abs z) most) (some z) none
+within most None = None
+within most (Some z) = cond (nat_le (unsigned_abs z) most) (Some z) None
 
 abbrev pub between : ℕ → ℕ → Option ℤ → Option ℕ
-between least most none = none
-between least most (some (negsuc n)) = none
-between least most (some (pos n)) = cond (nat_le least n && nat_le n most) (some n) none
+between least most None = None
+between least most (Some (negsuc n)) = None
+between least most (Some (pos n)) = cond (nat_le least n && nat_le n most) (Some n) None
 
 -- rule 19.4: no amount of a workbook is larger
 abbrev pub most_pounds : ℕ
@@ -47,12 +42,3 @@ whole_day x = between 61 73050 (whole_in x)
 
 abbrev pub half_days : Float → Option ℕ
 half_days x = between 122 146100 (times_of 2 x)
-
--- ---- what the functions found
-abbrev pub whole_found : Whole → Option ℤ
-whole_found (whole.Is z) = some z
-whole_found whole.No = none
-
-abbrev pub halves_found : Halves → Option ℕ
-halves_found (halves.Are n) = some n
-halves_found halves.No = none

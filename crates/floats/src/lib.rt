@@ -4,58 +4,28 @@
 ghost use Rattle.std.specs.Prelude.{◌≡◌};
 ghost use Rattle.std.specs.Float.{binary64};
 ghost use Rattle.std.specs.Float.Ieee.{of_int};
-ghost use Rattle.floats.specs.Floats.{half_days, halves_found, whole_found, whole_pounds};
+ghost use Rattle.floats.specs.Floats.{half_days, whole_pounds};
 
-// A whole number of magnitude at most 3 x 10^10, or that a float is none.
-#[derive(Clone, Copy)]
-pub enum Whole {
-    Is(i64),
-    No,
-}
+// Whole pounds of a workbook.
+pub const LEAST_WHOLE: i64 = -30_000_000_000;
 
-impl Whole {
-    pub const LEAST: i64 = -30_000_000_000;
+pub const MOST_WHOLE: i64 = 30_000_000_000;
 
-    pub const MOST: i64 = 30_000_000_000;
-}
+// Twice a day number, which may end in a half.
+pub const FIRST_HALVES: u64 = 122;
 
-// Twice a day number from 61 to 73,050 that may end in a half, or that a float is none.
-#[derive(Clone, Copy)]
-pub enum Halves {
-    Are(u64),
-    No,
-}
+pub const LAST_HALVES: u64 = 146_100;
 
-impl Halves {
-    pub const FIRST: u64 = 122;
-
-    pub const LAST: u64 = 146_100;
-}
-
-// The whole number that a float is: cut, and compared back. Minus zero is 0.
-pub fn whole_of(x: f64) -> Whole
-    ensures { whole_found result ≡ whole_pounds x }
+// The whole number of magnitude at most 3 x 10^10 that a float is: cut, and compared back. Minus zero is 0.
+#[tactic(auto, using(crate::proofs::Pounds::too_small, crate::proofs::Pounds::too_large, crate::proofs::Pounds::whole_test))]
+pub fn whole_of(x: f64) -> Option<i64>
+    ensures { result ≡ whole_pounds x }
 {
-    if x >= -9223372036854775808.0 {
-        if x < 9223372036854775808.0 {
-            let n = std::num::truncating_f64_to_i64(x);
-            if n < Whole::LEAST {
-                return Whole::No;
-            }
-            if Whole::MOST < n {
-                return Whole::No;
-            }
-            if std::num::nearest_i64_to_f64(n) == x {
-                Whole::Is(n)
-            } else {
-                Whole::No
-            }
-        } else {
-            Whole::No
-        }
-    } else {
-        Whole::No
+    let n = std::num::saturating_f64_to_i64(x);
+    if n < LEAST_WHOLE || MOST_WHOLE < n {
+        return None;
     }
+    (std::num::nearest_i64_to_f64(n) == x).then_some(n)
 }
 
 // The float nearest to a whole number: the number itself to 2^53, so for all pounds of a workbook.
@@ -65,29 +35,14 @@ pub fn float_of(z: i64) -> f64
     std::num::nearest_i64_to_f64(z)
 }
 
-// Twice the day number that a float is: doubled, cut, and compared back.
-pub fn halves_of(x: f64) -> Halves
-    ensures { halves_found result ≡ half_days x }
+// Twice the day number from 61 to 73,050 that a float is: doubled, cut, and compared back.
+#[tactic(auto, using(crate::proofs::Days::too_early, crate::proofs::Days::too_late, crate::proofs::Days::halves_test))]
+pub fn halves_of(x: f64) -> Option<u64>
+    ensures { result ≡ half_days x }
 {
-    let doubled = x * 2.0;
-    if doubled > -1.0 {
-        if doubled < 18446744073709551616.0 {
-            let n = std::num::truncating_f64_to_u64(doubled);
-            if n < Halves::FIRST {
-                return Halves::No;
-            }
-            if Halves::LAST < n {
-                return Halves::No;
-            }
-            if std::num::nearest_u64_to_f64(n) * 0.5 == x {
-                Halves::Are(n)
-            } else {
-                Halves::No
-            }
-        } else {
-            Halves::No
-        }
-    } else {
-        Halves::No
+    let n = std::num::saturating_f64_to_u64(x * 2.0);
+    if n < FIRST_HALVES || LAST_HALVES < n {
+        return None;
     }
+    (std::num::nearest_u64_to_f64(n) * 0.5 == x).then_some(n)
 }

@@ -53,17 +53,17 @@ book_says b g =
     let f = good_factor b.miss_factor in
     let c = good_sum b.pcl b.pcac b.orac in
     let d = good_sum b.pfl b.pcaf b.oraf in
-    let p = and_right e (t && (u && (f && (c && d)))) g in
-    let q = and_right t (u && (f && (c && d))) p in
-    let r = and_right u (f && (c && d)) q in
-    let s = and_right f (c && d) r in
+    let n = and_left (e && (t && (u && f))) (c && d) g in
+    let m = and_right (e && (t && (u && f))) (c && d) g in
+    let q = and_right e (t && (u && f)) n in
+    let r = and_right t (u && f) q in
     record {
-      end = and_left e (t && (u && (f && (c && d)))) g;
-      first = leb-true b.first_target 20000000 (and_left t (u && (f && (c && d))) p);
-      last = leb-true b.last_target 20000000 (and_left u (f && (c && d)) q);
-      factor = leb-true b.miss_factor 10000 (and_left f (c && d) r);
-      cap = sum_says b.pcl b.pcac b.orac (and_left c d s);
-      floor = sum_says b.pfl b.pcaf b.oraf (and_right c d s);
+      end = and_left e (t && (u && f)) n;
+      first = leb-true b.first_target 20000000 (and_left t (u && f) q);
+      last = leb-true b.last_target 20000000 (and_left u f r);
+      factor = leb-true b.miss_factor 10000 (and_right u f r);
+      cap = sum_says b.pcl b.pcac b.orac (and_left c d m);
+      floor = sum_says b.pfl b.pcaf b.oraf (and_right c d m);
     }
 
 -- a book that holds for a log is in range

@@ -39,12 +39,11 @@ good_sum preliminary construction opex =
 abbrev pub good_factor : ℕ → Bool
 good_factor factor = leb factor 10000
 
+abbrev pub good_numbers : Book → Bool
+good_numbers b = good_regime_end b.regime_end && (good_target b.first_target && (good_target b.last_target && good_factor b.miss_factor))
+
 unfoldable pub good_book : Book → Bool
-good_book b =
-    good_regime_end b.regime_end
-    && (good_target b.first_target
-    && (good_target b.last_target
-    && (good_factor b.miss_factor && (good_sum b.pcl b.pcac b.orac && good_sum b.pfl b.pcaf b.oraf))))
+good_book b = good_numbers b && (good_sum b.pcl b.pcac b.orac && good_sum b.pfl b.pcaf b.oraf)
 
 -- rule 3.3: the book is in range, and the log beside it runs to the same regime end
 abbrev pub book_holds : Book → ℕ → Bool

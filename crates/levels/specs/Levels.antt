@@ -1,6 +1,7 @@
 -- Cap and floor levels: rules, section 6 (SC2 4).
-use Rattle.std.specs.Prelude.{Bool, cond, not, ◌&&◌, ◌||◌, [], ◌∷◌, ◌≡◌, ℕ, ◌*◌, leb, ℤ, pos, nat_abs, ◌*ℤ◌}
-use Rattle.refusals.specs.Refusals.{Rows, accepted, refusal_number, first_applicable}
+use Rattle.std.specs.Prelude.{Bool, cond, not, ◌&&◌, ◌||◌, [], ◌∷◌, ◌≡◌, ℕ, ◌*◌, leb, Result, ℤ, pos, nat_abs, ◌*ℤ◌}
+use Rattle.refusals.specs.Refusals.{Rows, accepted, first_applicable, answer_number, given_or}
+use Rattle.refusals.specs.declared.Refusal.{Refusal}
 use Rattle.refusals.specs.declared.Refusal.TheVariants.{BadBook, BrokenLog, BadYear, TooLarge}
 use Rattle.money.specs.Rounding.{round_z}
 use Rattle.outage.specs.declared.Log.{Log}
@@ -9,7 +10,6 @@ use Rattle.year.specs.declared.Year.{Year}
 use Rattle.year.specs.Year.{good_year}
 use Rattle.levels.specs.declared.Book.{Book}
 use Rattle.levels.specs.declared.levelling.Levels.{Levels}
-use Rattle.levels.specs.declared.levelling.Levels.TheVariants.{Pounds, Refused}
 use Rattle.levels.specs.Book.{book_holds, cap_sum, floor_sum}
 use Rattle.levels.specs.Availability.{meets_target}
 
@@ -44,25 +44,13 @@ levels_rows book y log =
     ∷ (TooLarge, not (level_fits (cap_level book y) && level_fits (floor_of book y log)))
     ∷ []
 
-abbrev pub cap_given : Book → Year → Log → ℤ
-cap_given book y log = cond (accepted (levels_rows book y log)) (cap_level book y) (pos 0)
+-- rule 12.4: what is given beside a refusal
+abbrev pub no_levels : Levels
+no_levels = record { cap = pos 0; floor = pos 0 }
 
-abbrev pub floor_given : Book → Year → Log → ℤ
-floor_given book y log = cond (accepted (levels_rows book y log)) (floor_of book y log) (pos 0)
-
-abbrev pub levels_number : Levels → ℕ
-levels_number (Pounds cap floor) = 0
-levels_number (Refused why) = refusal_number why
-
-abbrev pub cap_figure : Levels → ℤ
-cap_figure (Pounds cap floor) = cap
-cap_figure (Refused why) = pos 0
-
-abbrev pub floor_figure : Levels → ℤ
-floor_figure (Pounds cap floor) = floor
-floor_figure (Refused why) = pos 0
+abbrev pub levels_given : Book → Year → Log → Levels
+levels_given book y log = cond (accepted (levels_rows book y log)) (record { cap = cap_level book y; floor = floor_of book y log }) no_levels
 
 -- what `levels_of` promises of its result
-abbrev pub LevelsGives : Book → Year → Log → Levels → Type 0
-LevelsGives book y log r =
-    (levels_number r ≡ first_applicable (levels_rows book y log)) × (cap_figure r ≡ cap_given book y log) × (floor_figure r ≡ floor_given book y log)
+abbrev pub LevelsGives : Book → Year → Log → Result Levels Refusal → Type 0
+LevelsGives book y log r = (answer_number r ≡ first_applicable (levels_rows book y log)) × (given_or no_levels r ≡ levels_given book y log)

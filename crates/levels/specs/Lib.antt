@@ -1,5 +1,4 @@
--- The book, availability, the levels, and what the functions inside are stated by.
+-- The book, availability and the levels.
 pub mod Book
 pub mod Availability
 pub mod Levels
-pub mod Steps

@@ -1,24 +1,24 @@
 // The cap and floor levels of a year.
 ghost use Rattle.std.specs.Prelude.{◌≡◌, true, ◌≤◌, nat_abs};
-ghost use Rattle.levels.specs.Book.{cap_sum, floor_sum, good_book};
-ghost use Rattle.levels.specs.Levels.{aif_of, level_of, LevelsGives};
+ghost use Rattle.year.specs.Year.{good_year};
+ghost use Rattle.levels.specs.Book.{good_book};
+ghost use Rattle.levels.specs.Levels.{aif_of, cap_level, floor_level, level_of, LevelsGives};
 
 use super::Book;
-use super::measuring::{Target, is_met, measured, sum_of, tested};
-use calendar::year_minutes;
+use super::measuring::{check_target, sum_of};
 use money::{credit, debit, is_negative, magnitude, rounded, within};
-use outage::{Log, lost_energy};
-use refusals::{Answer, Refusal};
+use outage::Log;
+use refusals::Refusal;
 use year::{Year, check_year};
 
 // What a product of three factors in ten-thousandths is divided by.
 const OVER: u64 = 1_000_000_000_000;
 
-// A year's cap and floor in whole pounds, or why there are none.
-#[derive(Clone, Copy)]
-pub enum Levels {
-    Pounds { cap: i64, floor: i64 },
-    Refused(Refusal),
+// A year's cap and floor, in whole pounds.
+#[derive(Clone, Copy, Debug, PartialEq, Eq)]
+pub struct Levels {
+    pub cap: i64,
+    pub floor: i64,
 }
 
 impl Levels {
@@ -51,56 +51,42 @@ fn level(partial: u16, sum: i64, incentive: u16, pppi: u32) -> i64
 fn aif(met: bool, exceptional: bool, miss_factor: u16) -> u16
     ensures { result ≡ aif_of met exceptional miss_factor }
 {
-    if met {
-        return Levels::ONE;
+    if met || exceptional {
+        Levels::ONE
+    } else {
+        miss_factor
     }
-    if exceptional {
-        return Levels::ONE;
-    }
-    miss_factor
 }
 
 // The cap of a year that is in range, SC2 4(a).
-fn cap_of(book: Book, pyc: u16, aic: u16, pppi: u32) -> i64
-    requires { (good_book book ≡ true) × (pyc ≤ 10000) × (aic ≤ 20000) × (pppi ≤ 50000) }
-    ensures { result ≡ level_of pyc (cap_sum book) aic pppi }
+fn cap_of(book: Book, y: Year) -> i64
+    requires { (good_book book ≡ true) × (good_year y ≡ true) }
+    ensures { result ≡ cap_level book y }
 {
     let sum = sum_of(book.pcl, book.pcac, book.orac);
-    level(pyc, sum, aic, pppi)
+    level(y.pyc, sum, y.aic, y.pppi)
 }
 
 // The floor of a year that is in range, SC2 4(b).
-fn floor_of(book: Book, pyf: u16, pppi: u32, exceptional: bool, met: bool) -> i64
-    requires { (good_book book ≡ true) × (pyf ≤ 10000) × (pppi ≤ 50000) }
-    ensures { result ≡ level_of pyf (floor_sum book) (aif_of met exceptional book.miss_factor) pppi }
+fn floor_of(book: Book, y: Year, met: bool) -> i64
+    requires { (good_book book ≡ true) × (good_year y ≡ true) }
+    ensures { result ≡ floor_level book y (aif_of met y.exceptional book.miss_factor) }
 {
     let sum = sum_of(book.pfl, book.pcaf, book.oraf);
-    let incentive = aif(met, exceptional, book.miss_factor);
-    level(pyf, sum, incentive, pppi)
+    let incentive = aif(met, y.exceptional, book.miss_factor);
+    level(y.pyf, sum, incentive, y.pppi)
 }
 
 // The cap and floor levels of a year, with the target tested on the running log.
-pub fn levels_of(book: Book, y: Year, log: Log) -> Levels
+pub fn levels_of(book: Book, y: Year, log: Log) -> Result<Levels, Refusal>
     ensures { LevelsGives book y log result }
 {
-    let minutes = year_minutes(y.number, log.regime_end);
-    let lost = lost_energy(log, minutes.first_minute(), minutes.end_minute());
-    let available = measured(book, log.regime_end, minutes, lost);
-    let target = tested(book, y.number, available);
-    if let Target::Refused(why) = target {
-        return Levels::Refused(why);
+    let met = check_target(book, log, y.number)?;
+    check_year(y)?;
+    let cap = cap_of(book, y);
+    let floor = floor_of(book, y, met);
+    if !within(cap, Levels::MOST) || !within(floor, Levels::MOST) {
+        return Err(Refusal::TooLarge);
     }
-    let answer = check_year(y);
-    if let Answer::Refused(why) = answer {
-        return Levels::Refused(why);
-    }
-    let cap = cap_of(book, y.pyc, y.aic, y.pppi);
-    let floor = floor_of(book, y.pyf, y.pppi, y.exceptional, is_met(target));
-    if !within(cap, Levels::MOST) {
-        return Levels::Refused(Refusal::TooLarge);
-    }
-    if !within(floor, Levels::MOST) {
-        return Levels::Refused(Refusal::TooLarge);
-    }
-    Levels::Pounds { cap, floor }
+    Ok(Levels { cap, floor })
 }

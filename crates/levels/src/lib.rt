@@ -9,11 +9,11 @@ ghost use Rattle.std.specs.Prelude.{◌≡◌};
 ghost use Rattle.levels.specs.Book.{published_book};
 
 pub use levelling::{Levels, levels_of};
-pub use measuring::{Availability, Target, availability_of, check_target};
+pub use measuring::{availability_of, check_target};
 use outage::Log;
 
 // What the licence and the regulator set: amounts in whole pounds, targets in MWh, the factor in ten-thousandths.
-#[derive(Clone, Copy)]
+#[derive(Clone, Copy, Debug, PartialEq, Eq)]
 pub struct Book {
     pub regime_end: u32,
     // the targets of years 1 and 25

@@ -1,102 +1,57 @@
 -- The median of two days, in floats: exact, and told from every other. Assumes nothing.
 use mathlib.Core.Path.{◌≡◌, refl, sym, ap, ◌∙◌, subst}
-use mathlib.Core.Bool.{Bool, true, false, cond, ◌&&◌, true≢false}
-use mathlib.Core.Option.{Option, some, none}
+use mathlib.Core.Bool.{Bool, true, false, ◌&&◌}
+use Rattle.std.specs.Prelude.{Option, Some, None, unwrap_or}
 use Prim.Native.Nat.{ℕ, ◌+◌, ◌≤◌, ◌<◌}
 use native.Mathlib.Omega.{arith}
-use borrow.Author.Tests.{le-leb, lt-leb, leb-false, ltb-true, ltb-false, eq-eqb, ne_eqb}
+use borrow.Author.Tests.{le-leb, eq-eqb, ne_eqb}
 use lib.Dec.{T, leb}
-use lib.IntN.{ℤ, pos, negsuc, nat_abs}
-use lib.Signed.{lt_z}
+use lib.IntN.{pos}
 use lib.Ieee.{Float, binary64, add, mul, of_int, eq}
 use lib.Ieee.Exact.{HasValue}
 use Rattle.lists.proofs.Tests.{and_made, and_false}
-use Rattle.floats.specs.Floats.{within, between, most_pounds, whole_pounds, whole_in, whole_day, half_days, times_of}
+use Rattle.floats.specs.Floats.{between, whole_in, whole_day, half_days, times_of}
 use Rattle.floats.proofs.Exactly.{of_int_law, half, sum_exact, half_at, half_exact, one_half}
 use Rattle.floats.proofs.Equal.{value, equal}
 use Rattle.floats.proofs.Times.{times_is}
 use Rattle.floats.proofs.Days.{between_is, between_some, positive}
 use Rattle.median_period.specs.declared.MedianPeriod.{MedianPeriod}
-use Rattle.median_period.specs.Medians.{or_zero, day_number, day_or, days_agree, good_medians, medians_of}
+use Rattle.median_period.specs.Medians.{day_or, days_agree, good_medians, medians_of}
 use Rattle.median_period.specs.Theorems.{ExactPeriod}
-
--- ---- a day is looked for among whole pounds: the limit of these lets every day through
-pub by_pounds : (found : Option ℤ) → between 61 73050 (within most_pounds found) ≡ between 61 73050 found
-by_pounds none = refl
-by_pounds (some z) = by z (leb (nat_abs z) most_pounds) refl
-  where
-    late : (n : ℕ) → leb n most_pounds ≡ false → (leb 61 n && leb n 73050) ≡ false
-    late n e = rw (lt-leb n 73050 (omega (arith, leb-false n most_pounds e))) (and_false (leb 61 n))
-
-    by : (z : ℤ) (b : Bool) → leb (nat_abs z) most_pounds ≡ b → between 61 73050 (cond b (some z) none) ≡ between 61 73050 (some z)
-    by z true e = refl
-    by (negsuc n) false e = refl
-    by (pos n) false e = rw (late n e) refl
-
-pub day_found : (x : Float) (found : Option ℤ) → found ≡ whole_pounds x → or_zero (between 61 73050 found) ≡ day_or x
-day_found x found e = ap (λ (o : Option ℤ). or_zero (between 61 73050 o)) e ∙ ap or_zero (by_pounds (whole_in x))
-
--- ---- a whole number as a day
-pub early : (z : ℤ) → lt_z z (pos 61) ≡ true → day_number z ≡ 0
-early (negsuc n) e = refl
-early (pos n) e = rw (lt-leb 61 n (ltb-true n 61 e)) refl
-
-pub late : (z : ℤ) → lt_z (pos 73050) z ≡ true → day_number z ≡ 0
-late (negsuc n) e = refl
-late (pos n) e = rw (lt-leb n 73050 (ltb-true 73050 n e)) (ap (λ (b : Bool). or_zero (cond b (some n) none)) (and_false (leb 61 n)))
-
-pub record InDays (z : ℤ) : Type 0 where
-  pub is : z ≡ pos (day_number z)
-  pub small : day_number z ≤ 73050
-
-pub in_days : (z : ℤ) → lt_z z (pos 61) ≡ false → lt_z (pos 73050) z ≡ false → InDays z
-in_days (pos n) l h =
-    let e : n ≡ day_number (pos n) = sym (ap or_zero (between_some 61 73050 n (ltb-false n 61 l) (ltb-false 73050 n h))) in
-    record { is = ap pos e; small = subst (λ (k : ℕ). k ≤ 73050) e (ltb-false 73050 n h) }
-in_days (negsuc n) l h = absurd (true≢false l)
 
 -- ---- what the tests of a day say
 module _ (x : Float) where
-  pub no_day : day_or x < 61 → whole_day x ≡ none
+  pub no_day : day_or x < 61 → whole_day x ≡ None
   no_day h = by (whole_day x) refl h
     where
-      by : (found : Option ℕ) → whole_day x ≡ found → or_zero found < 61 → found ≡ none
-      by none e h = refl
-      by (some n) e h = absurd (not_below (between_is 61 73050 (whole_in x) n e).low h)
+      by : (found : Option ℕ) → whole_day x ≡ found → unwrap_or found 0 < 61 → found ≡ None
+      by None e h = refl
+      by (Some n) e h = absurd (not_below (between_is 61 73050 (whole_in x) n e).low h)
         where
           not_below : {n : ℕ} → 61 ≤ n → n < 61 → ⊥
           not_below l h = omega arith
 
-  pub a_day : 61 ≤ day_or x → whole_day x ≡ some (day_or x)
+  pub a_day : 61 ≤ day_or x → whole_day x ≡ Some (day_or x)
   a_day h = by (whole_day x) h
     where
-      by : (found : Option ℕ) → 61 ≤ or_zero found → found ≡ some (or_zero found)
-      by none h = absurd (none_there h)
+      by : (found : Option ℕ) → 61 ≤ unwrap_or found 0 → found ≡ Some (unwrap_or found 0)
+      by None h = absurd (none_there h)
         where
           none_there : 61 ≤ 0 → ⊥
           none_there h = omega arith
-      by (some n) h = refl
+      by (Some n) h = refl
 
-pub last_day : (x : Float) (n : ℕ) → whole_day x ≡ some n → n ≤ 73050
+pub last_day : (x : Float) (n : ℕ) → whole_day x ≡ Some n → n ≤ 73050
 last_day x n e = (between_is 61 73050 (whole_in x) n e).high
 
-day_value : (x : Float) (n : ℕ) → whole_day x ≡ some n → HasValue x false n 1
+day_value : (x : Float) (n : ℕ) → whole_day x ≡ Some n → HasValue x false n 1
 day_value x n e = let b = between_is 61 73050 (whole_in x) n e in positive x 1 n (above b.low) b.is
   where
     above : {n : ℕ} → 61 ≤ n → 0 < n
     above h = omega arith
 
--- ---- the tests of the days, before the median is looked at
-pub reversed : (p : MedianPeriod) (a : ℕ) → whole_day p.first ≡ some a → day_or p.last < a → good_medians p ≡ false
-reversed p a f h = ap (λ (o : Option ℕ). days_agree o (whole_day p.last) (half_days p.median)) f ∙ by (whole_day p.last) h (half_days p.median)
-  where
-    by : (last : Option ℕ) → or_zero last < a → (twice : Option ℕ) → days_agree (some a) last twice ≡ false
-    by none h twice = refl
-    by (some b) h none = refl
-    by (some b) h (some k) = rw (lt-leb a b h) refl
-
 -- ---- the median: twice it is the sum exactly where the float is equal to half of the sum
-module _ (p : MedianPeriod) (a b : ℕ) (f : whole_day p.first ≡ some a) (l : whole_day p.last ≡ some b) (order : a ≤ b) where
+module _ (p : MedianPeriod) (a b : ℕ) (f : whole_day p.first ≡ Some a) (l : whole_day p.last ≡ Some b) (order : a ≤ b) where
   abbrev sum : Float
   sum = add binary64 p.first p.last
 
@@ -116,19 +71,19 @@ module _ (p : MedianPeriod) (a b : ℕ) (f : whole_day p.first ≡ some a) (l : 
       half_exact sum (a + b) (omega arith) (omega arith)
       (sum_exact p.first p.last a b (omega arith) (day_value p.first a f) (day_value p.last b l))
 
-  agrees : days_agree (whole_day p.first) (whole_day p.last) (half_days p.median) ≡ days_agree (some a) (some b) (half_days p.median)
+  agrees : days_agree (whole_day p.first) (whole_day p.last) (half_days p.median) ≡ days_agree (Some a) (Some b) (half_days p.median)
   agrees =
       ap (λ (o : Option ℕ). days_agree o (whole_day p.last) (half_days p.median)) f
-      ∙ ap (λ (o : Option ℕ). days_agree (some a) o (half_days p.median)) l
+      ∙ ap (λ (o : Option ℕ). days_agree (Some a) o (half_days p.median)) l
 
-  is_own : T (eq mid p.median) → half_days p.median ≡ some (a + b)
+  is_own : T (eq mid p.median) → half_days p.median ≡ Some (a + b)
   is_own t =
       let lo = low in
       let hi = high in
       ap (between 122 146100) (times_is p.median false (a + b) 2 (value mid p.median false (a + b) 2 (omega arith) mid_is t))
       ∙ between_some 122 146100 (a + b) (omega arith) (omega arith)
 
-  own_is : half_days p.median ≡ some (a + b) → T (eq mid p.median)
+  own_is : half_days p.median ≡ Some (a + b) → T (eq mid p.median)
   own_is e =
       let lo = low in
       let m = between_is 122 146100 (times_of 2 p.median) (a + b) e in
@@ -140,22 +95,22 @@ module _ (p : MedianPeriod) (a b : ℕ) (f : whole_day p.first ≡ some a) (l : 
       other : (b : Bool) → T b → b ≡ false → ⊥
       other b t e = subst T e t
 
-      by : (test : Bool) → eq mid p.median ≡ test → (twice : Option ℕ) → half_days p.median ≡ twice → test ≡ days_agree (some a) (some b) twice
+      by : (test : Bool) → eq mid p.median ≡ test → (twice : Option ℕ) → half_days p.median ≡ twice → test ≡ days_agree (Some a) (Some b) twice
       by true e twice h =
-          sym (ap (days_agree (some a) (some b)) (sym h ∙ is_own (subst T (sym e) tt)) ∙ and_made (le-leb a b order) (eq-eqb (a + b) (a + b) refl))
-      by false e none h = refl
-      by false e (some k) h =
-          sym (ap (λ (t : Bool). leb a b && t) (ne_eqb k (a + b) (λ s. other (eq mid p.median) (own_is (h ∙ ap some s)) e)) ∙ and_false (leb a b))
+          sym (ap (days_agree (Some a) (Some b)) (sym h ∙ is_own (subst T (sym e) tt)) ∙ and_made (le-leb a b order) (eq-eqb (a + b) (a + b) refl))
+      by false e None h = refl
+      by false e (Some k) h =
+          sym (ap (λ (t : Bool). leb a b && t) (ne_eqb k (a + b) (λ s. other (eq mid p.median) (own_is (h ∙ ap Some s)) e)) ∙ and_false (leb a b))
 
 -- ---- made of two days
 module _ (a b : ℕ) (low : 61 ≤ a) (order : a ≤ b) (high : b ≤ 73050) where
-  first_is : whole_day (medians_of a b).first ≡ some a
+  first_is : whole_day (medians_of a b).first ≡ Some a
   first_is = ap (between 61 73050) (times_is (medians_of a b).first false a 1 (of_int_law a (omega arith))) ∙ between_some 61 73050 a low (omega arith)
 
-  last_is : whole_day (medians_of a b).last ≡ some b
+  last_is : whole_day (medians_of a b).last ≡ Some b
   last_is = ap (between 61 73050) (times_is (medians_of a b).last false b 1 (of_int_law b (omega arith))) ∙ between_some 61 73050 b (omega arith) high
 
-  median_is : half_days (medians_of a b).median ≡ some (a + b)
+  median_is : half_days (medians_of a b).median ≡ Some (a + b)
   median_is =
       ap (between 122 146100) (times_is (medians_of a b).median false (a + b) 2 (half false (a + b) (omega arith)))
       ∙ between_some 122 146100 (a + b) (omega arith) (omega arith)
@@ -173,7 +128,7 @@ module _ (a b : ℕ) (low : 61 ≤ a) (order : a ≤ b) (high : b ≤ 73050) whe
     median = median_is;
     good =
         ap (λ (o : Option ℕ). days_agree o (whole_day (medians_of a b).last) (half_days (medians_of a b).median)) first_is
-        ∙ ap (λ (o : Option ℕ). days_agree (some a) o (half_days (medians_of a b).median)) last_is
-        ∙ ap (days_agree (some a) (some b)) median_is
+        ∙ ap (λ (o : Option ℕ). days_agree (Some a) o (half_days (medians_of a b).median)) last_is
+        ∙ ap (days_agree (Some a) (Some b)) median_is
         ∙ and_made (le-leb a b order) (eq-eqb (a + b) (a + b) refl);
   }

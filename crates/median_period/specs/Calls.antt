@@ -1,13 +1,11 @@
 -- What making a period of two days checks and gives, and the gap of two: rules 12.4, 19.2 and 19.3.
-use Rattle.std.specs.Prelude.{Bool, cond, not, ◌&&◌, [], ◌∷◌, ◌≡◌, ℕ, nat_abs}
-use Rattle.refusals.specs.Refusals.{Rows, accepted, answer_number, first_applicable}
+use Rattle.std.specs.Prelude.{Bool, cond, not, ◌&&◌, [], ◌∷◌, ◌≡◌, ℕ, nat_abs, Result}
+use Rattle.refusals.specs.Refusals.{Rows, accepted, answer_number, first_applicable, given_or}
+use Rattle.refusals.specs.declared.Refusal.{Refusal}
 use Rattle.refusals.specs.declared.Refusal.TheVariants.{BadPeriod}
-use Rattle.refusals.specs.declared.Answer.TheVariants.{Refused}
-use Rattle.settlement.specs.declared.medians.Gap.{Gap}
 use Rattle.settlement.specs.Gap.{good_period, day_sum, hundredths}
-use Rattle.settlement.specs.Calls.{gap_holds, gap_number, gap_figure}
+use Rattle.settlement.specs.Calls.{gap_holds}
 use Rattle.median_period.specs.declared.MedianPeriod.{MedianPeriod}
-use Rattle.median_period.specs.declared.MadePeriod.{MadePeriod}
 use Rattle.median_period.specs.Medians.{days_of, good_medians, medians_of, no_medians}
 
 -- ---- a period is made of two days
@@ -18,13 +16,9 @@ make_rows first last = (BadPeriod, not (good_period (record { first = first; las
 abbrev pub made_period : ℕ → ℕ → MedianPeriod
 made_period first last = cond (accepted (make_rows first last)) (medians_of first last) no_medians
 
--- a refusal as the call gives it
-abbrev pub not_made : MadePeriod
-not_made = record { period = no_medians; answer = Refused BadPeriod }
-
 -- what `make_period` promises of its result
-abbrev pub MakeGives : ℕ → ℕ → MadePeriod → Type 0
-MakeGives first last r = (answer_number r.answer ≡ first_applicable (make_rows first last)) × (r.period ≡ made_period first last)
+abbrev pub MakeGives : ℕ → ℕ → Result MedianPeriod Refusal → Type 0
+MakeGives first last r = (answer_number r ≡ first_applicable (make_rows first last)) × (given_or no_medians r ≡ made_period first last)
 
 -- ---- the gap of two periods is that of their days
 abbrev pub medians_hold : MedianPeriod → MedianPeriod → Bool
@@ -38,5 +32,5 @@ medians_gap_given earlier later =
     cond (accepted (medians_gap_rows earlier later)) (nat_abs (hundredths (day_sum (days_of earlier)) (day_sum (days_of later)))) 0
 
 -- what `gap_of_medians` promises of its result
-abbrev pub MediansGapGives : MedianPeriod → MedianPeriod → Gap → Type 0
-MediansGapGives earlier later r = (gap_number r ≡ first_applicable (medians_gap_rows earlier later)) × (gap_figure r ≡ medians_gap_given earlier later)
+abbrev pub MediansGapGives : MedianPeriod → MedianPeriod → Result ℕ Refusal → Type 0
+MediansGapGives earlier later r = (answer_number r ≡ first_applicable (medians_gap_rows earlier later)) × (given_or 0 r ≡ medians_gap_given earlier later)

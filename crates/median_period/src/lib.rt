@@ -2,49 +2,28 @@
 #![tactic(auto)]
 
 ghost use Rattle.std.specs.Prelude.{◌≡◌};
-ghost use Rattle.median_period.specs.Medians.{day_or, day_number, days_of, good_medians, no_medians};
-ghost use Rattle.median_period.specs.Calls.{MakeGives, MediansGapGives, not_made};
+ghost use Rattle.floats.specs.Floats.{whole_day};
+ghost use Rattle.median_period.specs.Medians.{days_of, good_medians, no_medians};
+ghost use Rattle.median_period.specs.Calls.{MakeGives, MediansGapGives};
 
-use floats::{Whole, whole_of};
-use refusals::{Answer, Refusal};
-use settlement::{Gap, Period, gap_between};
+use floats::whole_of;
+use refusals::Refusal;
+use settlement::{Period, gap_between};
 
 // A measurement, settlement or reconciliation period, in spreadsheet day numbers. The median may end in a half.
-#[derive(Clone, Copy)]
+#[derive(Clone, Copy, Debug, PartialEq)]
 pub struct MedianPeriod {
     pub first: f64,
     pub last: f64,
     pub median: f64,
 }
 
-// The period of two days, or of three zeros beside a refusal.
-#[derive(Clone, Copy)]
-pub struct MadePeriod {
-    pub period: MedianPeriod,
-    pub answer: Answer,
-}
-
-// A whole number as a day, 0 where it is out of range.
-fn day_in(z: i64) -> u32
-    ensures { result ≡ day_number z }
+// The whole day that a float is.
+fn day_of(x: f64) -> Option<u32>
+    ensures { result ≡ whole_day x }
 {
-    if z < 61 {
-        return 0;
-    }
-    if 73050 < z {
-        return 0;
-    }
-    z as u32
-}
-
-// The whole day that a float is, 0 where it is none.
-fn day_of(x: f64) -> u32
-    ensures { result ≡ day_or x }
-{
-    match whole_of(x) {
-        Whole::Is(z) => day_in(z),
-        Whole::No => 0,
-    }
+    let day = u32::try_from(whole_of(x)?).ok()?;
+    (Period::FIRST_DAY <= day && day <= Period::LAST_DAY).then_some(day)
 }
 
 impl MedianPeriod {
@@ -63,72 +42,47 @@ impl MedianPeriod {
     pub fn days(self) -> Period
         ensures { result ≡ days_of self }
     {
-        let first = day_of(self.first);
-        let last = day_of(self.last);
+        let first = day_of(self.first).unwrap_or(0);
+        let last = day_of(self.last).unwrap_or(0);
         Period { first, last }
     }
 
     // Whether its days are whole and a period, and the median is exactly half of their sum.
+    #[tactic(auto, using(crate::proofs::Laws::median_test))]
     pub fn is_good(self) -> bool
         ensures { result ≡ good_medians self }
     {
-        let first = day_of(self.first);
-        let last = day_of(self.last);
-        if first < Period::FIRST_DAY {
+        let (Some(first), Some(last)) = (day_of(self.first), day_of(self.last)) else {
             return false;
-        }
-        if last < first {
-            return false;
-        }
-        (self.first + self.last) * 0.5 == self.median
-    }
-}
-
-// No period, and why.
-fn refused() -> MadePeriod
-    ensures { result ≡ not_made }
-{
-    MadePeriod {
-        period: MedianPeriod::zero(),
-        answer: Answer::Refused(Refusal::BadPeriod),
+        };
+        first <= last && (self.first + self.last) * 0.5 == self.median
     }
 }
 
 // The period of two whole days, with the median that is theirs; 12 where they are out of range or reversed.
-pub fn make_period(first: u32, last: u32) -> MadePeriod
+#[tactic(auto, using(crate::proofs::Laws::half_of_sum))]
+pub fn make_period(first: u32, last: u32) -> Result<MedianPeriod, Refusal>
     ensures { MakeGives first last result }
 {
-    if first < Period::FIRST_DAY {
-        return refused();
+    if first < Period::FIRST_DAY || last < first || Period::LAST_DAY < last {
+        return Err(Refusal::BadPeriod);
     }
-    if last < first {
-        return refused();
-    }
-    if Period::LAST_DAY < last {
-        return refused();
-    }
-    let a = first as f64;
-    let b = last as f64;
-    MadePeriod {
-        period: MedianPeriod {
-            first: a,
-            last: b,
-            median: (a + b) * 0.5,
-        },
-        answer: Answer::Done,
-    }
+    let a = f64::from(first);
+    let b = f64::from(last);
+    Ok(MedianPeriod {
+        first: a,
+        last: b,
+        median: (a + b) * 0.5,
+    })
 }
 
 // The years from the median of one period to that of a later one, in hundredths, from their days; 12 also for a period that
 // is not as a workbook keeps one.
-pub fn gap_of_medians(earlier: MedianPeriod, later: MedianPeriod) -> Gap
+pub fn gap_of_medians(earlier: MedianPeriod, later: MedianPeriod) -> Result<u32, Refusal>
     ensures { MediansGapGives earlier later result }
 {
-    if !earlier.is_good() {
-        return Gap::Refused(Refusal::BadPeriod);
-    }
-    if !later.is_good() {
-        return Gap::Refused(Refusal::BadPeriod);
+    if !earlier.is_good() || !later.is_good() {
+        return Err(Refusal::BadPeriod);
     }
     gap_between(earlier.days(), later.days())
 }

@@ -4,7 +4,7 @@
 
 mod say;
 
-use outage::{Entry, Log};
+use outage::{Entry, Log, lost_energy};
 use std::io;
 
 // Minutes are counted from 00:00 on 31 January 2019; this is the midnight after.
@@ -13,39 +13,35 @@ const MIDNIGHT: u32 = 1_440;
 // The regime ends on 1 January 2045.
 const END: u32 = Log::LAST_REGIME_END;
 
-// Enters an outage. Done or refused, the log that comes back is the one to go on with.
-fn enter(rt: &impl Print, log: Log, start: u32, end: u32, mw: u16, cause: u8) -> io::Result<Log> {
+// Enters an outage. Done or refused, the log is one to go on with.
+fn enter(
+    rt: &impl Print,
+    log: &mut Log,
+    start: u32,
+    end: u32,
+    mw: u16,
+    cause: u8,
+) -> io::Result<()> {
     let e = Entry {
         start,
         end,
         mw,
         cause,
     };
-    let entered = outage::enter(log, e);
-    let answer = entered.answer;
-    say::entered(rt, e, answer)?;
-    Ok(entered.log)
+    say::entered(rt, e, outage::enter(log, e))
 }
 
 fn main(rt: HostRuntime) -> io::Result<()> {
-    let log = Log::empty(END).log;
+    let mut log = Log::empty(END).unwrap();
     // one pole, 23:00 to 02:00
-    let log = enter(&rt, log, 1_380, 1_560, 500, 1)?;
+    enter(&rt, &mut log, 1_380, 1_560, 500, 1)?;
     // 02:00 to 03:00, which touches it
-    let log = enter(&rt, log, 1_560, 1_620, 300, 1)?;
+    enter(&rt, &mut log, 1_560, 1_620, 300, 1)?;
     // the other pole at the same time, 01:00 to 01:30
-    let log = enter(&rt, log, 1_500, 1_530, 400, 2)?;
+    enter(&rt, &mut log, 1_500, 1_530, 400, 2)?;
     // 01:10 to 01:20, when 1,001 MW would be lost
-    let log = enter(&rt, log, 1_510, 1_520, 101, 3)?;
-    say::lost(
-        &rt,
-        "before midnight",
-        outage::lost_energy(log, 0, MIDNIGHT),
-    )?;
-    say::lost(
-        &rt,
-        "after midnight",
-        outage::lost_energy(log, MIDNIGHT, END),
-    )?;
-    say::lost(&rt, "in all", outage::lost_energy(log, 0, END))
+    enter(&rt, &mut log, 1_510, 1_520, 101, 3)?;
+    say::lost(&rt, "before midnight", lost_energy(log, 0, MIDNIGHT))?;
+    say::lost(&rt, "after midnight", lost_energy(log, MIDNIGHT, END))?;
+    say::lost(&rt, "in all", lost_energy(log, 0, END))
 }

@@ -1,59 +1,24 @@
 // Prints what the calls answer, a line each.
-use outage::{Entry, LostEnergy};
-use refusals::{Answer, Refusal};
+use outage::Entry;
+use refusals::Refusal;
 use std::io;
 
-fn text(rt: &impl Print, s: &str) -> io::Result<()> {
-    rt.print(s)
-}
-
-fn number(rt: &impl Print, n: u64) -> io::Result<()> {
-    rt.print(n)
-}
-
-fn refused(rt: &impl Print, why: Refusal) -> io::Result<()> {
-    text(rt, "refused ")?;
-    number(rt, why.number() as u64)
-}
-
-// The cause, where it is not 1.
-fn named(rt: &impl Print, cause: u8) -> io::Result<()> {
-    if cause != 1 {
-        text(rt, ", cause ")?;
-        number(rt, cause as u64)?;
+// An outage that was to be entered, its cause where that is not 1, and the answer.
+pub(crate) fn entered(rt: &impl Print, e: Entry, answer: Result<(), Refusal>) -> io::Result<()> {
+    print!(rt; "enter {} to {} at {} MW", e.start, e.end, e.mw)?;
+    if e.cause != 1 {
+        print!(rt; ", cause {}", e.cause)?;
     }
-    Ok(())
-}
-
-// An outage that was to be entered, and the answer.
-pub(crate) fn entered(rt: &impl Print, e: Entry, answer: Answer) -> io::Result<()> {
-    text(rt, "enter ")?;
-    number(rt, e.start as u64)?;
-    text(rt, " to ")?;
-    number(rt, e.end as u64)?;
-    text(rt, " at ")?;
-    number(rt, e.mw as u64)?;
-    text(rt, " MW")?;
-    named(rt, e.cause)?;
-    text(rt, ": ")?;
     match answer {
-        Answer::Done => text(rt, "done")?,
-        Answer::Refused(why) => refused(rt, why)?,
+        Ok(()) => println!(rt; ": done"),
+        Err(why) => println!(rt; ": refused {}", why.number()),
     }
-    text(rt, "\n")
 }
 
 // The MW-minutes lost in a stretch.
-pub(crate) fn lost(rt: &impl Print, when: &str, energy: LostEnergy) -> io::Result<()> {
-    text(rt, "lost ")?;
-    text(rt, when)?;
-    text(rt, ": ")?;
+pub(crate) fn lost(rt: &impl Print, when: &str, energy: Result<u64, Refusal>) -> io::Result<()> {
     match energy {
-        LostEnergy::MwMinutes(x) => {
-            number(rt, x)?;
-            text(rt, " MW-minutes")?;
-        }
-        LostEnergy::Refused(why) => refused(rt, why)?,
+        Ok(x) => println!(rt; "lost {when}: {x} MW-minutes"),
+        Err(why) => println!(rt; "lost {when}: refused {}", why.number()),
     }
-    text(rt, "\n")
 }

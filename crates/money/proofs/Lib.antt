@@ -1,5 +1,4 @@
 -- Laws of pounds, of the rounding rule, and of signed numbers by their parts.
 pub mod Pounds
-pub mod Signs
 pub mod Parts
 pub mod Nearest

@@ -1,5 +1,5 @@
 -- Magnitudes, what fits 64 bits, and what saturates. Assumes nothing.
-use mathlib.Core.Path.{◌≡◌, refl, sym, ap, ◌∙◌}
+use mathlib.Core.Path.{◌≡◌, refl, ap}
 use mathlib.Core.Bool.{Bool, true, false, not, cond}
 use mathlib.Core.Logic.{⊎_elim}
 use Prim.Native.Nat.{ℕ, zero, suc, ◌+◌, ◌-◌, ◌^◌, ◌≤◌, ◌<◌, min}
@@ -59,10 +59,6 @@ non_neg_is (negsuc n) = refl
 pub saturated_fits : (z : ℤ) → mag z < 2 ^ 63 → saturated z ≡ z
 saturated_fits (pos n) h = ap pos (min-eq_left (omega arith))
 saturated_fits (negsuc n) h = ap negsuc (min-eq_left (omega arith))
-
--- what is read back of it is the saturated number
-pub saturated_wire : (z : ℤ) → mag z < 2 ^ 63 → to_z w64 (of_z w64 z) ≡ saturated z
-saturated_wire z h = wire z h ∙ sym (saturated_fits z h)
 
 -- a number of magnitude below 2^63 stays as it is
 pub saturated_small : (z : ℤ) → nat_abs z < 2 ^ 63 → saturated z ≡ z

@@ -4,31 +4,17 @@
 
 mod rounding;
 
-ghost use Rattle.std.specs.Prelude.{◌≡◌, leb, pos, negsuc, nat_abs, neg_ℤ, ◌+ℤ◌, ◌-ℤ◌};
+ghost use Rattle.std.specs.Prelude.{◌≡◌, leb, pos, nat_abs, neg_ℤ, ◌+ℤ◌, ◌-ℤ◌};
 ghost use Rattle.std.specs.Int.Signed.{lt_z};
 ghost use Rattle.money.specs.Pounds.{saturated};
 
 pub use rounding::{rounded, scaled};
 
-// The most that fits an i64.
-const MOST: u64 = 9_223_372_036_854_775_807;
-
-// Minus one less z: the range of an i64 reflected onto itself, which makes a difference of a sum.
-fn reflected(z: i64) -> i64
-    ensures { result ≡ negsuc 0 -ℤ z }
-{
-    -1 - z
-}
-
 // The magnitude, of the least i64 too.
 pub fn magnitude(z: i64) -> u64
     ensures { result ≡ nat_abs z }
 {
-    if z < 0 {
-        (reflected(z) as u64) + 1
-    } else {
-        z as u64
-    }
+    z.unsigned_abs()
 }
 
 pub fn is_negative(z: i64) -> bool
@@ -54,49 +40,26 @@ pub fn within(z: i64, limit: u64) -> bool
 pub fn credit(n: u64) -> i64
     ensures { result ≡ saturated (pos n) }
 {
-    if MOST < n {
-        return 9_223_372_036_854_775_807;
-    }
-    n as i64
-}
-
-// n pounds and one to the bad, saturated.
-fn below_zero(n: u64) -> i64
-    ensures { result ≡ saturated (negsuc n) }
-{
-    reflected(credit(n))
+    i64::try_from(n).unwrap_or(i64::MAX)
 }
 
 // n pounds to the bad, saturated.
 pub fn debit(n: u64) -> i64
     ensures { result ≡ saturated (neg_ℤ (pos n)) }
 {
-    if n == 0 {
-        return 0;
-    }
-    below_zero(n - 1)
+    0_i64.saturating_sub_unsigned(n)
 }
 
 // The sum, saturated.
 pub fn plus(a: i64, b: i64) -> i64
     ensures { result ≡ saturated (a +ℤ b) }
 {
-    let bad = is_negative(a);
-    if bad != is_negative(b) {
-        return a + b;
-    }
-    let m = magnitude(a);
-    let n = magnitude(b);
-    if bad {
-        below_zero(m + (n - 1))
-    } else {
-        credit(m + n)
-    }
+    a.saturating_add(b)
 }
 
-// The difference, saturated: a - b is -1 - (-1 - a + b).
+// The difference, saturated.
 pub fn minus(a: i64, b: i64) -> i64
     ensures { result ≡ saturated (a -ℤ b) }
 {
-    reflected(plus(reflected(a), b))
+    a.saturating_sub(b)
 }

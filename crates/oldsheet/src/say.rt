@@ -3,8 +3,8 @@ ghost use Rattle.std.specs.Prelude.{◌≡◌, ◌≤◌};
 ghost use Rattle.text.specs.Text.{room, text_of};
 ghost use Rattle.oldsheet.specs.Printout.{refusal_line};
 
-use outage::{Entry, Log};
-use refusals::Refusal;
+use outage::Log;
+use refusals::RefusedAt;
 use sheet_printout::print_outage;
 use std::io;
 use text::{Text, push, push_all, push_decimal};
@@ -13,25 +13,13 @@ use text::{Text, push, push_all, push_decimal};
 fn line(rt: &impl Print, t: Text) -> io::Result<()>
     requires { t.length ≤ room }
 {
-    let bytes = t.bytes;
-    let length = t.length;
-    rt.write_all(&bytes[..length])
-}
-
-fn outage(rt: &impl Print, e: Entry) -> io::Result<()> {
-    let printed = print_outage(e);
-    let text = printed.text;
-    line(rt, text)
+    rt.write_all(&t.bytes[..t.length])
 }
 
 // The outages of a log, a line each: rule 17.1.
 pub(crate) fn outages(rt: &impl Print, log: Log) -> io::Result<()> {
-    let count = log.count;
-    let mut i: usize = 0;
-    while i < Log::SLOTS && i < count {
-        let e = log.entries[i];
-        outage(rt, e)?;
-        i += 1;
+    for e in log.entries.iter().take(log.count) {
+        line(rt, print_outage(*e).unwrap_or(Text::empty()))?;
     }
     Ok(())
 }
@@ -47,7 +35,7 @@ fn refusal_line(number: u64, place: u64) -> Text
     push(placed, b'\n')
 }
 
-pub(crate) fn refused(rt: &impl Print, why: Refusal, place: usize) -> io::Result<()> {
-    let text = refusal_line(why.number() as u64, place as u64);
-    line(rt, text)
+pub(crate) fn refused(rt: &impl Print, refused: RefusedAt) -> io::Result<()> {
+    let number = u64::from(refused.why.number());
+    line(rt, refusal_line(number, refused.at as u64))
 }

@@ -3,3 +3,4 @@ pub mod OneByOne
 pub mod Outages
 pub mod Lists
 pub mod Only
+pub mod Parts

@@ -5,31 +5,28 @@ use mathlib.Core.List.{List, []}
 use Prim.Native.Nat.{ℕ, suc, ◌+◌, ◌-◌, ◌≤◌, ◌<◌}
 use native.Mathlib.Omega.{arith}
 use lib.ListN.{set}
+use Rattle.std.specs.Prelude.{Ok, Err}
 use Rattle.lists.specs.Lists.{padded}
 use Rattle.lists.proofs.Tests.{not_no}
 use Rattle.lists.proofs.Padded.{padded_more}
 use Rattle.refusals.specs.declared.Refusal.{Refusal}
-use Rattle.refusals.specs.declared.Refusal.TheVariants.{BadBook, BadPlan}
-use Rattle.refusals.specs.declared.Answer.TheVariants.{Done}
+use Rattle.refusals.specs.declared.RefusedAt.{RefusedAt}
 use Rattle.refusals.specs.Refusals.{refusal_number, first_applicable}
 use Rattle.refusals.proofs.Laws.{all_clear, which_is, which_of}
 use Rattle.entries.specs.declared.Entry.{Entry}
 use Rattle.entries.specs.Row.{good_regime_end, good_span, zero_entry}
 use Rattle.plan.specs.declared.Plan.{Plan}
+use Rattle.plan.specs.declared.listing.Listed.{Listed}
 use Rattle.plan.specs.Plan.{outage_after, outages_from, most_outages, good_plan}
-use Rattle.plan.specs.Calls.{Outcome, through, failed, one_by_one, outage_rows, longer, listing, ListGives}
-use Rattle.plan.specs.Steps.{fitted_at, list_refused}
+use Rattle.plan.specs.Calls.{Outcome, through, failed, one_by_one, outage_rows, longer, listing, list_of, ListGives}
+use Rattle.plan.specs.Steps.{fitted_at}
 use Rattle.plan.proofs.OneByOne.{none_left, one_goes, one_fails}
 use Rattle.plan.proofs.Outages.{plan_says, from_length, first_more, from_first, from_next, from_none, fits, span_fits}
 
+listed : {k l : List Entry} {m n : ℕ} → k ≡ l → m ≡ n → ◌≡◌ {A = Listed} (record { entries = k; count = m }) (record { entries = l; count = n })
+listed p q = cc
+
 module _ (regime_end : ℕ) (p : Plan) where
-  -- a bad regime end, or a plan out of range
-  pub gives_bad_end : good_regime_end regime_end ≡ false → ListGives regime_end p (list_refused BadBook 0)
-  gives_bad_end b = rw b (refl, refl, refl, refl)
-
-  pub gives_bad_plan : good_regime_end regime_end ≡ true → good_plan p ≡ false → ListGives regime_end p (list_refused BadPlan 0)
-  gives_bad_plan g b = rw (g, b) (refl, refl, refl, refl)
-
   -- those that are left, behind so many that are listed
   abbrev pub listing_from : ℕ → List Entry → List Entry → Outcome (List Entry)
   listing_from outage before es = one_by_one (λ (before : List Entry). outage_rows regime_end) longer outage before es
@@ -68,20 +65,20 @@ module _ (regime_end : ℕ) (p : Plan) where
           }
 
       -- the next fails
-      pub gives_failed : (why : Refusal) → refusal_number why ≡ first_applicable (outage_rows regime_end (fitted_at p k)) → ListGives regime_end p (list_refused why (k + 1))
+      pub gives_failed : (why : Refusal) → refusal_number why ≡ first_applicable (outage_rows regime_end (fitted_at p k)) → ListGives regime_end p (Err (record { why = why; at = k + 1 }))
       gives_failed why h =
           let n = h ∙ same_rows k in
           let f : listing regime_end p ≡ failed (refusal_number why) (suc k) =
           l.so_far ∙ ap (listing_from (suc k) (outages_from p 0 k)) (from_next p k p.count more)
           ∙ one_fails (λ (before : List Entry). outage_rows regime_end) longer (suc k) (outages_from p 0 k) (outage_after p k) (outages_from p (suc k) (p.count - suc k)) why n in
           let e : k + 1 ≡ suc k = omega arith in
-          rw (good, plans, f, e) (sym (ap (λ (m : ℕ). first_applicable (which_of m (outage_rows regime_end (outage_after p k)))) n ∙ which_is (outage_rows regime_end (outage_after p k)) ∙ sym n), refl, refl, refl)
+          rw (good, plans, f, e) (sym (ap (λ (m : ℕ). first_applicable (which_of m (outage_rows regime_end (outage_after p k)))) n ∙ which_is (outage_rows regime_end (outage_after p k)) ∙ sym n), refl, refl)
 
     -- all of them go through
-    pub gives_all : {row : List Entry} {k : ℕ} → Lists row k → p.count ≤ k → ListGives regime_end p (record { entries = row; count = k; answer = Done; outage = 0 })
-    gives_all {k = k} l h =
+    pub gives_all : {row : List Entry} {k : ℕ} → Lists row k → p.count ≤ k → ListGives regime_end p (Ok (record { entries = row; count = p.count }))
+    gives_all {row} {k} l h =
         let e : k ≡ p.count = omega (arith, l.few) in
         let f : listing regime_end p ≡ through (outages_from p 0 k) =
         l.so_far ∙ ap (listing_from (suc k) (outages_from p 0 k)) (ap (λ (n : ℕ). outages_from p n (p.count - n)) e ∙ from_none p p.count)
         ∙ none_left (λ (before : List Entry). outage_rows regime_end) longer (suc k) (outages_from p 0 k) in
-        rw (good, plans, f) (refl, refl, l.stored, sym (from_length p 0 k))
+        rw (good, plans, f) (refl, refl, listed l.stored (sym e ∙ sym (from_length p 0 k)))

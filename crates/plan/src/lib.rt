@@ -7,12 +7,13 @@ ghost use Rattle.std.specs.Prelude.{◌≡◌, min};
 ghost use Rattle.plan.specs.Plan.{good_plan, no_plan};
 ghost use Rattle.plan.specs.Steps.{fitted_at, latest};
 
+use calendar::MINUTES_A_DAY;
 use entries::Entry;
 pub use listing::{Listed, list_plan};
 
 // The first start, how many minutes a window lasts, how many days lie from one start to the next, how many windows there are, and
 // the MW lost in each and its cause.
-#[derive(Clone, Copy)]
+#[derive(Clone, Copy, Debug, PartialEq, Eq)]
 pub struct Plan {
     pub start: u32,
     pub length: u32,
@@ -22,18 +23,11 @@ pub struct Plan {
     pub cause: u8,
 }
 
-// The minutes of a day.
-const MINUTES_A_DAY: u32 = 1440;
-
 // A minute, or the last that fits where it does not.
 fn fitted(minute: u64) -> u32
     ensures { result ≡ min minute latest }
 {
-    if minute < u32::MAX as u64 {
-        minute as u32
-    } else {
-        u32::MAX
-    }
+    u32::try_from(minute).unwrap_or(u32::MAX)
 }
 
 impl Plan {
@@ -57,27 +51,21 @@ impl Plan {
     pub fn is_good(self) -> bool
         ensures { result ≡ good_plan self }
     {
-        if self.count < 1 {
-            return false;
-        }
-        if Plan::MOST_OUTAGES < self.count as usize {
-            return false;
-        }
-        if self.step < 1 {
-            return false;
-        }
-        self.length <= self.step as u32 * MINUTES_A_DAY
+        1 <= self.count
+            && usize::from(self.count) <= Plan::MOST_OUTAGES
+            && 1 <= self.step
+            && self.length <= u32::from(self.step) * MINUTES_A_DAY
     }
 
     // The outage after so many steps. A minute that does not fit is the last that does, which is past every regime end.
     pub fn outage(self, steps: u16) -> Entry
         ensures { result ≡ fitted_at self steps }
     {
-        let minutes = steps as u64 * self.step as u64 * MINUTES_A_DAY as u64;
-        let start = self.start as u64 + minutes;
+        let minutes = u64::from(steps) * u64::from(self.step) * u64::from(MINUTES_A_DAY);
+        let start = u64::from(self.start) + minutes;
         Entry {
             start: fitted(start),
-            end: fitted(start + self.length as u64),
+            end: fitted(start + u64::from(self.length)),
             mw: self.mw,
             cause: self.cause,
         }

@@ -5,4 +5,3 @@ pub mod Entering
 pub mod OnEmpty
 pub mod Only
 pub mod Passing
-pub mod Steps

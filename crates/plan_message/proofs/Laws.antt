@@ -1,13 +1,14 @@
 -- The field of a plan: how many bytes it has, what bytes hold it, and that its layouts keep the laws of a value. Assumes nothing.
 use mathlib.Core.Path.{◌≡◌, refl, sym, ap, ◌∙◌}
-use mathlib.Core.Bool.{Bool, true, false, cond, not, ◌&&◌}
+use mathlib.Core.Bool.{Bool, true, false, cond, not, ◌&&◌, true≢false}
 use mathlib.Core.List.{List}
-use mathlib.Core.Option.{Option, some, none}
+use Rattle.std.specs.Prelude.{Option, Some, None}
+use Rattle.std.specs.Bool.{then_some}
 use Prim.Native.Nat.{ℕ, ◌+◌, ◌≤◌}
 use native.Mathlib.Nat.{le_refl}
 use native.Mathlib.Omega.{arith}
 use borrow.Author.Tests.{eq-eqb, eqb-true, ne_eqb, le-leb}
-use lib.Dec.{leb}
+use lib.Dec.{leb, eqb}
 use lib.ListN.{length, drop, length-append}
 use Rattle.lists.proofs.Tests.{not_yes}
 use Rattle.plan.specs.declared.Plan.{Plan}
@@ -16,18 +17,18 @@ use Rattle.codec.specs.Format.{Value, num, pair, mapped, tagged, field, field_of
 use Rattle.codec.specs.Shapes.{beside, first_found}
 use Rattle.codec.specs.Numbers.{bytes_of}
 use Rattle.codec.specs.Buffers.{Wrote}
-use Rattle.codec.specs.Leaves.{Spells, number_bytes}
+use Rattle.codec.specs.Leaves.{Spells, number_at, number_bytes}
 use Rattle.codec.specs.Theorems.{Bytes}
 use Rattle.codec.proofs.Numbers.{bytes_length}
 use Rattle.codec.proofs.Items.{ItemLaws, length_head, tagged_laws}
 use Rattle.codec.proofs.Either.{beside_laws, lengths_apart, either_laws}
 use Rattle.codec.proofs.Values.{ValueLaws, num_laws, pair_laws, mapped_laws, restricted_laws}
 use Rattle.codec.proofs.Positions.{room, field_is, field_not}
-use Rattle.codec.proofs.Found.{Whole, free, next, restricted_passes}
+use Rattle.codec.proofs.Found.{Whole, free, next, restricted_passes, spells}
 use Rattle.codec.proofs.Putting.{Laid, run_then, number_then, number_last, room_after}
 use Rattle.codec.proofs.Buffers.{wrote, then, same}
 use Rattle.plan_message.specs.Form.{Numbers, numbers, to_plan, from_plan, is_plain, plain_layout, caused_layout, plan_item, plan_tag, plan_bytes}
-use Rattle.plan_message.specs.Steps.{message_bytes, Begins}
+use Rattle.plan_message.specs.Steps.{message_bytes, Begins, CauseIn}
 use Rattle.plan_message.specs.Theorems.{plan_fits}
 
 -- ---- the numbers of a plan, from the last to the first
@@ -75,13 +76,13 @@ caused_laws =
     (mapped_laws to_plan from_plan (pair numbers cause) (λ p. refl) (λ n. refl) (pair_laws numbers cause numbers_laws (num_laws 1 0 255 (omega arith))))
 
 -- the cause tells which of the two was found
-plain_is : (bs : List ℕ) (p : Plan) → field plan_tag plain_layout bs ≡ some p → is_plain p ≡ true
+plain_is : (bs : List ℕ) (p : Plan) → field plan_tag plain_layout bs ≡ Some p → is_plain p ≡ true
 unfolding field
 plain_is bs p e = by (framed plan_tag 14 bs) (numbers.get (drop 3 bs)) e
   where
-    by : (t : Bool) (o : Option Numbers) → when t (map_o to_plan (map_o (λ n. (n, 1)) o)) ≡ some p → is_plain p ≡ true
-    by true (some n) e = let q : to_plan (n, 1) ≡ p = cc in ap is_plain (sym q)
-    by true none e = absurd (let z : ◌≡◌ {A = ℕ} 0 1 = cc in omega arith)
+    by : (t : Bool) (o : Option Numbers) → when t (map_o to_plan (map_o (λ n. (n, 1)) o)) ≡ Some p → is_plain p ≡ true
+    by true (Some n) e = let q : to_plan (n, 1) ≡ p = cc in ap is_plain (sym q)
+    by true None e = absurd (let z : ◌≡◌ {A = ℕ} 0 1 = cc in omega arith)
     by false o e = absurd (let z : ◌≡◌ {A = ℕ} 0 1 = cc in omega arith)
 
 pub plan_item_law : ItemLaws plan_item
@@ -123,7 +124,7 @@ fits_fine p = by (is_plain p) refl
 -- ---- in the bytes handed in: which field they begin with
 -- a plan that names its cause, if that is not 1
 abbrev passed : Option Plan → Option Plan
-passed o = bind_o o (λ p. when (not (is_plain p)) (some p))
+passed o = bind_o o (λ p. when (not (is_plain p)) (Some p))
 
 module _ (s : List ℕ) where
   pub plain_begins : framed plan_tag 14 s ≡ true → Begins s 1
@@ -131,7 +132,6 @@ module _ (s : List ℕ) where
     len = 14;
     is = w;
     long = omega arith;
-    small = omega arith;
     holds = λ n h. ap (λ (o : Option Plan). first_found o (field plan_tag caused_layout s)) (field_is plan_tag plain_layout s 0 w ∙ ap (λ (o : Option Numbers). map_o to_plan (map_o (λ n. (n, 1)) o)) h);
   }
 
@@ -140,37 +140,48 @@ module _ (s : List ℕ) where
     not_plain : plan_item.look s ≡ field plan_tag caused_layout s
     not_plain = ap (λ (o : Option Plan). first_found o (field plan_tag caused_layout s)) (field_not plan_tag plain_layout s w)
 
-    pub no_plan : framed plan_tag 15 s ≡ false → plan_item.look s ≡ none
+    pub no_plan : framed plan_tag 15 s ≡ false → plan_item.look s ≡ None
     no_plan v = not_plain ∙ field_not plan_tag caused_layout s v
 
     module _ (v : framed plan_tag 15 s ≡ true) {c : ℕ} (x : Spells s 17 1 c) where
-      caused : {o : Option Numbers} → numbers.get (drop 3 s) ≡ o → plan_item.look s ≡ passed (map_o to_plan (bind_o o (λ n. some (n, c))))
+      caused : {o : Option Numbers} → numbers.get (drop 3 s) ≡ o → plan_item.look s ≡ passed (map_o to_plan (bind_o o (λ n. Some (n, c))))
       caused h = not_plain ∙ field_is plan_tag caused_layout s 0 v ∙ ap (λ (o : Option (Numbers × ℕ)). passed (map_o to_plan o)) (next numbers cause s 3 h (free x 255 (omega arith)))
 
-      pub caused_begins : (c ≡ 1 → ⊥) → Begins s c
+      caused_begins : (c ≡ 1 → ⊥) → Begins s c
       caused_begins ne = record {
         len = 15;
         is = v;
         long = omega arith;
-        small = omega (arith, x.small);
         holds = λ n h. caused h ∙ rw (ne_eqb c 1 ne) refl;
       }
 
       -- a 1 that is written out
-      pub one_written : c ≡ 1 → plan_item.look s ≡ none
+      one_written : c ≡ 1 → plan_item.look s ≡ None
       one_written e = by (numbers.get (drop 3 s)) refl
         where
-          by : (o : Option Numbers) → numbers.get (drop 3 s) ≡ o → plan_item.look s ≡ none
-          by none h = caused h
-          by (some n) h = caused h ∙ rw (eq-eqb c 1 e) refl
+          by : (o : Option Numbers) → numbers.get (drop 3 s) ≡ o → plan_item.look s ≡ None
+          by None h = caused h
+          by (Some n) h = caused h ∙ rw (eq-eqb c 1 e) refl
+
+      -- so the longer field is one of any cause but that
+      pub cause_but_one : CauseIn s (then_some (not (eqb c 1)) c)
+      cause_but_one = by (eqb c 1) refl
+        where
+          by : (t : Bool) → eqb c 1 ≡ t → CauseIn s (then_some (not t) c)
+          by true e = one_written (eqb-true c 1 e)
+          by false e = caused_begins (λ h. true≢false (sym (eq-eqb c 1 h) ∙ e))
 
 -- the plan whose numbers stand there
 module _ {s : List ℕ} {cause : ℕ} (b : Begins s cause) (all : Bytes s) where
-  pub begun : Whole s 0 plan_tag b.len
+  begun : Whole s 0 plan_tag b.len
   begun = record { bytes = all; is = b.is; fits = room plan_tag b.len s 0 b.is }
 
+  -- a number that was read there
+  pub number_in : {p n v : ℕ} → n ≤ 8 → p + n ≤ 17 → v ≡ number_at n (drop p s) → Spells s p n v
+  number_in k h e = spells begun k (omega (arith, h, b.long)) e
+
   pub plan_read : {a l d n m : ℕ} → Spells s 3 4 a → Spells s 7 4 l → Spells s 11 2 d → Spells s 13 2 n → Spells s 15 2 m
-      → plan_item.look s ≡ some (record { start = a; length = l; step = d; count = n; mw = m; cause = cause })
+      → plan_item.look s ≡ Some (record { start = a; length = l; step = d; count = n; mw = m; cause = cause })
   plan_read {a} {l} {d} {n} {m} x y z u v =
       b.holds (a, (l, (d, (n, m))))
       (next long from_length s 3 (free x 4294967295 (omega arith))

@@ -4,7 +4,7 @@ use mathlib.Core.Path.{◌≡◌, refl, sym, ap, ◌∙◌}
 use mathlib.Core.Bool.{cond}
 use mathlib.Core.Logic.{◌⊎◌, inl, inr}
 use mathlib.Core.List.{List, [], ◌∷◌}
-use mathlib.Core.Option.{Option, some, none}
+use Rattle.std.specs.Prelude.{Option, Some, None}
 use Prim.Native.Nat.{ℕ, ◌≤◌, ◌<◌}
 use native.Mathlib.Nat.{not-suc-le-zero}
 use native.Mathlib.Omega.{arith}
@@ -69,7 +69,7 @@ module _ (bs : List ℕ) (b : Bytes bs) (why place : ℕ) (e : plan_reading bs �
       by g = let z : ◌≡◌ {A = ℕ} 0 1 = cc in omega arith
 
   -- the message that they begin with
-  begins : (p : Plan) → plan_item.look bs ≡ some p → place ≡ message_bytes p → IsPlanOf p (take place bs)
+  begins : (p : Plan) → plan_item.look bs ≡ Some p → place ≡ message_bytes p → IsPlanOf p (take place bs)
   unfolding plan_bytes
   begins p f n =
       let k = plan_item_law.back bs p b f in
@@ -79,8 +79,8 @@ module _ (bs : List ℕ) (b : Bytes bs) (why place : ℕ) (e : plan_reading bs �
   three_places = by (le_or_lt (length bs) most_bytes)
     where
       found : length bs ≤ most_bytes → (o : Option Plan) → plan_item.look bs ≡ o → OneOfThree bs place
-      found h none f = inl (same malformed 0 (no_field bs h f))
-      found h (some p) f = behind (le_or_lt (length bs) (message_bytes p))
+      found h None f = inl (same malformed 0 (no_field bs h f))
+      found h (Some p) f = behind (le_or_lt (length bs) (message_bytes p))
         where
           behind : (length bs ≤ message_bytes p) ⊎ (message_bytes p < length bs) → OneOfThree bs place
           behind (inl k) = absurd (not_whole p (alone bs h f k))

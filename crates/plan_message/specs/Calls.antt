@@ -1,12 +1,12 @@
 -- What reading and writing a plan check and give: rules 12.3, 12.4, 18.8 and 18.9.
-use Rattle.std.specs.Prelude.{List, [], ◌∷◌, ◌≡◌, ℕ, ltb, length}
+use Rattle.std.specs.Prelude.{List, [], ◌∷◌, ◌≡◌, ℕ, ltb, length, Result}
+use Rattle.refusals.specs.declared.Refusal.{Refusal}
 use Rattle.refusals.specs.declared.Refusal.TheVariants.{Malformed, NoRoom}
-use Rattle.refusals.specs.declared.Written.{Written}
-use Rattle.refusals.specs.Refusals.{Rows, accepted, answer_number, first_applicable, written_number, length_figure}
+use Rattle.refusals.specs.declared.RefusedAt.{RefusedAt}
+use Rattle.refusals.specs.Refusals.{Rows, accepted, answer_number, first_applicable, given_or, why_alone, part_number}
 use Rattle.plan.specs.declared.Plan.{Plan}
 use Rattle.plan.specs.Plan.{no_plan}
 use Rattle.codec.specs.Message.{is_refused, place_in, value_in, length_in, buffer_in}
-use Rattle.plan_message.specs.declared.PlanRead.{PlanRead}
 use Rattle.plan_message.specs.Form.{plan_bytes, plan_reading}
 
 -- ---- a plan is read
@@ -22,9 +22,11 @@ abbrev pub read_plan_value : List ℕ → Plan
 read_plan_value bs = value_in no_plan (plan_reading bs)
 
 -- what `read_plan` promises of its result
-abbrev pub ReadPlanGives : List ℕ → PlanRead → Type 0
+abbrev pub ReadPlanGives : List ℕ → Result Plan RefusedAt → Type 0
 ReadPlanGives bs r =
-    (answer_number r.answer ≡ first_applicable (read_plan_rows bs)) × (r.place ≡ read_plan_place bs) × (r.plan ≡ read_plan_value bs)
+    (answer_number (why_alone r) ≡ first_applicable (read_plan_rows bs))
+    × (part_number r ≡ read_plan_place bs)
+    × (given_or no_plan (why_alone r) ≡ read_plan_value bs)
 
 -- ---- a plan is written
 abbrev pub write_plan_rows : Plan → ℕ → Rows
@@ -38,8 +40,8 @@ abbrev pub write_plan_buffer : Plan → List ℕ → List ℕ
 write_plan_buffer p out = buffer_in (accepted (write_plan_rows p (length out))) (plan_bytes p) out
 
 -- what `write_plan` promises of its result, and of the buffer after it
-abbrev pub WritePlanGives : Plan → List ℕ → Written → List ℕ → Type 0
+abbrev pub WritePlanGives : Plan → List ℕ → Result ℕ Refusal → List ℕ → Type 0
 WritePlanGives p out r o =
-    (written_number r ≡ first_applicable (write_plan_rows p (length out)))
-    × (length_figure r ≡ write_plan_length p (length out))
+    (answer_number r ≡ first_applicable (write_plan_rows p (length out)))
+    × (given_or 0 r ≡ write_plan_length p (length out))
     × (o ≡ write_plan_buffer p out)

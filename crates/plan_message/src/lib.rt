@@ -1,26 +1,20 @@
 // A plan as a message of one field, read and written: rules 18.8 and 18.9.
 #![tactic(auto)]
 
-ghost use Rattle.std.specs.Prelude.{◌≡◌, ◌+◌, ◌≤◌, length};
-ghost use Rattle.std.proofs.Math.Option.{some};
+ghost use Rattle.std.specs.Prelude.{◌≡◌, ◌+◌, ◌≤◌, length, Some};
 ghost use Rattle.codec.specs.Buffers.{Wrote};
 ghost use Rattle.plan_message.specs.Form.{from_plan, numbers, plan_bytes, plan_item};
 ghost use Rattle.plan_message.specs.Calls.{ReadPlanGives, WritePlanGives};
-ghost use Rattle.plan_message.specs.Steps.{Begins, CauseIn, message_bytes, refused_at};
+ghost use Rattle.plan_message.specs.Steps.{Begins, CauseIn, malformed_at, message_bytes};
 
-use codec::{FoundNumber, is_field, number, put, put_head};
+use codec::{is_field, number, put, put_head};
 use plan::Plan;
-use refusals::{Answer, Refusal, Written};
+use refusals::{Refusal, RefusedAt};
 
-// A plan as it was read, of any numbers, or of zeros beside a refusal; the answer; the place of a refusal.
-#[derive(Clone, Copy)]
-pub struct PlanRead {
-    pub plan: Plan,
-    pub answer: Answer,
-    pub place: usize,
-}
+// The message of a plan: its one field, and its sizes.
+pub struct PlanMessage;
 
-impl PlanRead {
+impl PlanMessage {
     pub const TAG: u8 = 30;
 
     // The cause that is left out.
@@ -34,15 +28,13 @@ impl PlanRead {
     pub const MOST_BYTES: usize = 8_192;
 }
 
-// A refused reading: 13, the place, and a plan of zeros.
-fn refused(place: usize) -> PlanRead
-    ensures { result ≡ refused_at place }
+// 13, and the place.
+fn malformed(at: usize) -> RefusedAt
+    ensures { result ≡ malformed_at at }
 {
-    let plan = Plan::zero();
-    PlanRead {
-        plan,
-        answer: Answer::Refused(Refusal::Malformed),
-        place,
+    RefusedAt {
+        why: Refusal::Malformed,
+        at,
     }
 }
 
@@ -50,34 +42,31 @@ fn refused(place: usize) -> PlanRead
 fn message_bytes(plan: Plan) -> usize
     ensures { result ≡ message_bytes plan }
 {
-    if plan.cause == PlanRead::PLAIN {
-        PlanRead::PLAIN_BYTES
+    if plan.cause == PlanMessage::PLAIN {
+        PlanMessage::PLAIN_BYTES
     } else {
-        PlanRead::BYTES
+        PlanMessage::BYTES
     }
 }
 
 // The cause in the field of a plan that the bytes begin with: 1 where it is left out. A 1 that is written out is none.
-fn cause_in(s: &[u8]) -> FoundNumber
+fn cause_in(s: &[u8]) -> Option<u8>
     ensures { CauseIn s.now result }
 {
-    if is_field(s, 0, PlanRead::TAG, 14) {
-        return FoundNumber::Is(PlanRead::PLAIN as u64);
+    if is_field(s, 0, PlanMessage::TAG, 14) {
+        return Some(PlanMessage::PLAIN);
     }
-    if !is_field(s, 0, PlanRead::TAG, 15) {
-        return FoundNumber::Not;
+    if !is_field(s, 0, PlanMessage::TAG, 15) {
+        return None;
     }
-    let cause = number(s, 17, 1);
-    if cause == PlanRead::PLAIN as u64 {
-        return FoundNumber::Not;
-    }
-    FoundNumber::Is(cause)
+    let cause = number(s, 17, 1) as u8;
+    (cause != PlanMessage::PLAIN).then_some(cause)
 }
 
 // The plan of this cause in the field that the bytes begin with.
-fn first_plan(s: &[u8], cause: u64) -> Plan
+fn first_plan(s: &[u8], cause: u8) -> Plan
     requires { Begins s.now cause }
-    ensures { plan_item.look s.now ≡ some result }
+    ensures { plan_item.look s.now ≡ Some result }
 {
     let start = number(s, 3, 4);
     let length = number(s, 7, 4);
@@ -90,30 +79,26 @@ fn first_plan(s: &[u8], cause: u64) -> Plan
         step: step as u16,
         count: count as u16,
         mw: mw as u16,
-        cause: cause as u8,
+        cause,
     }
 }
 
-// The plan that all of the bytes are the message of; else 13, with the place, and a plan of zeros.
-pub fn read_plan(s: &[u8]) -> PlanRead
+// The plan that all of the bytes are the message of; else 13, with the place.
+pub fn read_plan(s: &[u8]) -> Result<Plan, RefusedAt>
     ensures { ReadPlanGives s.now result }
 {
-    if PlanRead::MOST_BYTES < s.len() {
-        return refused(PlanRead::MOST_BYTES);
+    if PlanMessage::MOST_BYTES < s.len() {
+        return Err(malformed(PlanMessage::MOST_BYTES));
     }
-    let FoundNumber::Is(cause) = cause_in(s) else {
-        return refused(0);
+    let Some(cause) = cause_in(s) else {
+        return Err(malformed(0));
     };
     let plan = first_plan(s, cause);
     let bytes = message_bytes(plan);
     if bytes < s.len() {
-        return refused(bytes);
+        return Err(malformed(bytes));
     }
-    PlanRead {
-        plan,
-        answer: Answer::Done,
-        place: 0,
-    }
+    Ok(plan)
 }
 
 // The numbers of a plan but for its cause, from `at` on.
@@ -133,21 +118,21 @@ fn put_plan(plan: Plan, out: &mut [u8]) -> usize
     requires { message_bytes plan ≤ length out.old }
     ensures { Wrote out.old 0 (plan_bytes plan) out.new result }
 {
-    if plan.cause == PlanRead::PLAIN {
-        let at = put_head(out, 0, PlanRead::TAG, 14);
+    if plan.cause == PlanMessage::PLAIN {
+        let at = put_head(out, 0, PlanMessage::TAG, 14);
         return put_numbers(plan, out, at);
     }
-    let at = put_head(out, 0, PlanRead::TAG, 15);
+    let at = put_head(out, 0, PlanMessage::TAG, 15);
     let last = put_numbers(plan, out, at);
     put(out, last, 1, plan.cause as u64)
 }
 
 // The message of a plan, at the front of the buffer, and its length; or 14, and not a byte written.
-pub fn write_plan(plan: Plan, out: &mut [u8]) -> Written
+pub fn write_plan(plan: Plan, out: &mut [u8]) -> Result<usize, Refusal>
     ensures { WritePlanGives plan out.old result out.new }
 {
     if out.len() < message_bytes(plan) {
-        return Written::Refused(Refusal::NoRoom);
+        return Err(Refusal::NoRoom);
     }
-    Written::Length(put_plan(plan, out))
+    Ok(put_plan(plan, out))
 }

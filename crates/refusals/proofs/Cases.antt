@@ -1,122 +1,78 @@
--- An answer is figures or a refusal: its number and its figures determine which, and each list of rows is answered. Assumes nothing.
+-- An answer is what it gives or a refusal: its number and what it gives determine which, and each list of rows is answered.
+-- Assumes nothing.
 use mathlib.Core.Path.{◌≡◌, refl, sym, ap, ◌∙◌}
-use mathlib.Core.Logic.{◌⊎◌, inl, inr}
 use mathlib.Core.Bool.{Bool, true, false, cond}
 use mathlib.Core.List.{[], ◌∷◌}
 use Prim.Native.Nat.{ℕ}
 use native.Mathlib.Nat.{not-suc-le-zero}
 use native.Mathlib.Omega.{arith}
 use borrow.Author.Tests.{eq-eqb, ne_eqb}
+use Rattle.std.specs.Prelude.{Result, Ok, Err, ⊤}
 use Rattle.refusals.specs.declared.Refusal.{Refusal}
-use Rattle.refusals.specs.declared.Answer.{Answer}
-use Rattle.refusals.specs.declared.Answer.TheVariants.{Done, Refused}
-use Rattle.refusals.specs.Refusals.{refusal_number, answer_number, first_applicable, accepted, Rows}
+use Rattle.refusals.specs.declared.RefusedAt.{RefusedAt}
+use Rattle.refusals.specs.Refusals.{refusal_number, answer_number, given_or, why_alone, part_number, first_applicable, accepted, Rows}
 use Rattle.refusals.specs.Answers.{One}
 use Rattle.refusals.proofs.Laws.{same_refusal, never_zero, same_answer}
 
--- an answer that is a refusal
-pub record Refusing {R : Type 0} (refused : Refusal → R) (r : R) : Type 0 where
-  pub why : Refusal
-  pub is : r ≡ refused why
+-- the first row that applies, as an answer that gives one thing where none does
+abbrev first_of : {A : Type 0} → A → Rows → Result A Refusal
+first_of x [] = Ok x
+first_of x (row ∷ rows) = cond row.1 (Err row.0) (first_of x rows)
 
--- a type of answers: how its number and its figures are read off, the figures beside a refusal, and its two cases
-pub record Answers {R F : Type 0} (number : R → ℕ) (figures : R → F) (none : F) (found : F → R) (refused : Refusal → R) : Type 0 where
-  pub number_found : (f : F) → number (found f) ≡ 0
-  pub number_refused : (why : Refusal) → number (refused why) ≡ refusal_number why
-  pub figures_found : (f : F) → figures (found f) ≡ f
-  pub figures_refused : (why : Refusal) → figures (refused why) ≡ none
-  pub cases : (r : R) → (r ≡ found (figures r)) ⊎ Refusing refused r
+module _ {A : Type 0} (none x : A) where
+  first_meets : (rows : Rows) → (answer_number (first_of x rows) ≡ first_applicable rows) × (given_or none (first_of x rows) ≡ cond (accepted rows) x none)
+  first_meets [] = (refl, refl)
+  first_meets (row ∷ rows) = by row.1 (first_meets rows)
+    where
+      refused : accepted ((row.0, true) ∷ rows) ≡ false
+      refused = ne_eqb (refusal_number row.0) 0 (λ z. not-suc-le-zero {n = 0} (omega (arith, never_zero row.0)))
 
--- the first row that applies, as an answer
-abbrev first_of : Rows → Answer
-first_of [] = Done
-first_of (row ∷ rows) = cond row.1 (Refused row.0) (first_of rows)
-
-first_number : (rows : Rows) → answer_number (first_of rows) ≡ first_applicable rows
-first_number [] = refl
-first_number (row ∷ rows) = by row.1 (first_number rows)
-  where
-    by : (b : Bool) → answer_number (first_of rows) ≡ first_applicable rows
-        → answer_number (cond b (Refused row.0) (first_of rows)) ≡ cond b (refusal_number row.0) (first_applicable rows)
-    by true h = refl
-    by false h = h
+      by : (b : Bool) → (answer_number (first_of x rows) ≡ first_applicable rows) × (given_or none (first_of x rows) ≡ cond (accepted rows) x none)
+          → (answer_number (cond b (Err row.0) (first_of x rows)) ≡ first_applicable ((row.0, b) ∷ rows))
+          × (given_or none (cond b (Err row.0) (first_of x rows)) ≡ cond (accepted ((row.0, b) ∷ rows)) x none)
+      by true h = (refl, sym (ap (λ (t : Bool). cond t x none) refused))
+      by false h = h
 
 -- an answer that gives nothing but its number
-pub one_answer : (rows : Rows) → One (λ (a : Answer). answer_number a ≡ first_applicable rows)
-one_answer rows = record {
-  result = first_of rows;
-  meets = first_number rows;
-  alone = λ other h. same_answer other (first_of rows) (h ∙ sym (first_number rows));
-}
+pub one_answer : (rows : Rows) → One (λ (a : Result ⊤ Refusal). answer_number a ≡ first_applicable rows)
+one_answer rows =
+    let h = (first_meets tt tt rows).0 in
+    record { result = first_of tt rows; meets = h; alone = λ other k. same_answer other (first_of tt rows) (k ∙ sym h) }
 
-module _ {R F : Type 0} {number : R → ℕ} {figures : R → F} {none : F} {found : F → R} {refused : Refusal → R} (a : Answers number figures none found refused) where
-  -- the number and the figures determine the case
-  pub same_case : (r s : R) → number r ≡ number s → figures r ≡ figures s → r ≡ s
-  same_case r s n f = by (a.cases r) (a.cases s)
-    where
-      zero_not : (x y : R) → x ≡ found (figures x) → (q : Refusing refused y) → number x ≡ number y → r ≡ s
-      zero_not x y p q e =
-          let z : number x ≡ 0 = ap number p ∙ a.number_found (figures x) in
-          let w : number y ≡ refusal_number q.why = ap number q.is ∙ a.number_refused q.why in
-          absurd (not-suc-le-zero {n = 0} (omega (arith, never_zero q.why)))
+module _ {A : Type 0} (none : A) where
+  -- the number and what is given determine the answer
+  pub same_case : (r s : Result A Refusal) → answer_number r ≡ answer_number s → given_or none r ≡ given_or none s → r ≡ s
+  same_case (Ok x) (Ok y) n g = ap Ok g
+  same_case (Ok x) (Err s) n g = absurd (not-suc-le-zero {n = 0} (omega (arith, never_zero s)))
+  same_case (Err r) (Ok y) n g = absurd (not-suc-le-zero {n = 0} (omega (arith, never_zero r)))
+  same_case (Err r) (Err s) n g = ap Err (same_refusal r s n)
 
-      by : (r ≡ found (figures r)) ⊎ Refusing refused r → (s ≡ found (figures s)) ⊎ Refusing refused s → r ≡ s
-      by (inl p) (inl q) = p ∙ ap found f ∙ sym q
-      by (inl p) (inr q) = zero_not r s p q n
-      by (inr p) (inl q) = zero_not s r q p (sym n)
-      by (inr p) (inr q) =
-          let v : number r ≡ refusal_number p.why = ap number p.is ∙ a.number_refused p.why in
-          let w : number s ≡ refusal_number q.why = ap number q.is ∙ a.number_refused q.why in
-          p.is ∙ ap refused (same_refusal p.why q.why (sym v ∙ n ∙ w)) ∙ sym q.is
-
-  -- the figures meet rows of which none applies, and a refusal those whose number it has
-  pub found_meets : (rows : Rows) (f : F) → first_applicable rows ≡ 0 → (number (found f) ≡ first_applicable rows) × (figures (found f) ≡ cond (accepted rows) f none)
-  found_meets rows f e =
-      (a.number_found f ∙ sym e, a.figures_found f ∙ sym (ap (λ (b : Bool). cond b f none) (eq-eqb (first_applicable rows) 0 e)))
-
-  pub refused_meets : (rows : Rows) (f : F) (why : Refusal) → refusal_number why ≡ first_applicable rows → (number (refused why) ≡ first_applicable rows) × (figures (refused why) ≡ cond (accepted rows) f none)
-  refused_meets rows f why e =
-      let no : accepted rows ≡ false = ne_eqb (first_applicable rows) 0 (λ z. not-suc-le-zero {n = 0} (omega (arith, never_zero why))) in
-      (a.number_refused why ∙ e, a.figures_refused why ∙ sym (ap (λ (b : Bool). cond b f none) no))
-
-  -- each list of rows is answered, by the figures where none applies, and in one way
-  pub one_case : (rows : Rows) (f : F) → One (λ (r : R). (number r ≡ first_applicable rows) × (figures r ≡ cond (accepted rows) f none))
-  one_case rows f = by (first_of rows) (first_number rows)
-    where
-      given : (r : R) → (number r ≡ first_applicable rows) × (figures r ≡ cond (accepted rows) f none)
-          → One (λ (r : R). (number r ≡ first_applicable rows) × (figures r ≡ cond (accepted rows) f none))
-      given r m = record {
-        result = r;
-        meets = m;
-        alone = λ other h. same_case other r (h.0 ∙ sym m.0) (h.1 ∙ sym m.1);
-      }
-
-      by : (answer : Answer) → answer_number answer ≡ first_applicable rows → One (λ (r : R). (number r ≡ first_applicable rows) × (figures r ≡ cond (accepted rows) f none))
-      by Done e = given (found f) (found_meets rows f (sym e))
-      by (Refused why) e = given (refused why) (refused_meets rows f why e)
-
--- ---- two figures
-module _ {A B : Type 0} where
-  first_of_law : (t : Bool) (p q : A × B) → (cond t p q).0 ≡ cond t p.0 q.0
-  first_of_law true p q = refl
-  first_of_law false p q = refl
-
-  second_of : (t : Bool) (p q : A × B) → (cond t p q).1 ≡ cond t p.1 q.1
-  second_of true p q = refl
-  second_of false p q = refl
-
-module _ {R A B : Type 0} {number : R → ℕ} {f : R → A} {g : R → B} {m : A} {n : B} {found : A × B → R} {refused : Refusal → R}
-    (a : Answers number (λ (r : R). (f r, g r)) (m, n) found refused) where
-  pub same_two : (r s : R) → number r ≡ number s → f r ≡ f s → g r ≡ g s → r ≡ s
-  same_two r s e p q = same_case a r s e (λ i. (p i, q i))
-
-  pub one_two : (rows : Rows) (x : A) (y : B) → One (λ (r : R). (number r ≡ first_applicable rows) × (f r ≡ cond (accepted rows) x m) × (g r ≡ cond (accepted rows) y n))
-  one_two rows x y =
-      let o = one_case a rows (x, y) in
-      let p : f o.result ≡ cond (accepted rows) x m = ap (λ (z : A × B). z.0) o.meets.1 ∙ first_of_law (accepted rows) (x, y) (m, n) in
-      let q : g o.result ≡ cond (accepted rows) y n = ap (λ (z : A × B). z.1) o.meets.1 ∙ second_of (accepted rows) (x, y) (m, n) in
+  -- each list of rows is answered, and in one way
+  pub one_case : (rows : Rows) (x : A) → One (λ (r : Result A Refusal). (answer_number r ≡ first_applicable rows) × (given_or none r ≡ cond (accepted rows) x none))
+  one_case rows x =
+      let h = first_meets none x rows in
       record {
-        result = o.result;
-        meets = (o.meets.0, p, q);
-        alone = λ other h. same_two other o.result (h.0 ∙ sym o.meets.0) (h.1 ∙ sym p) (h.2 ∙ sym q);
+        result = first_of x rows;
+        meets = h;
+        alone = λ other k. same_case other (first_of x rows) (k.0 ∙ sym h.0) (k.1 ∙ sym h.1);
       }
+
+  -- what is given meets rows of which none applies, and a refusal those whose number it has
+  pub found_meets : (rows : Rows) (x : A) → first_applicable rows ≡ 0 → (answer_number {A = A} (Ok x) ≡ first_applicable rows) × (given_or none (Ok x) ≡ cond (accepted rows) x none)
+  found_meets rows x e = (sym e, sym (ap (λ (b : Bool). cond b x none) (eq-eqb (first_applicable rows) 0 e)))
+
+  pub refused_meets : (rows : Rows) (x : A) (why : Refusal) → refusal_number why ≡ first_applicable rows → (answer_number {A = A} (Err why) ≡ first_applicable rows) × (given_or none (Err why) ≡ cond (accepted rows) x none)
+  refused_meets rows x why e =
+      let no : accepted rows ≡ false = ne_eqb (first_applicable rows) 0 (λ z. not-suc-le-zero {n = 0} (omega (arith, never_zero why))) in
+      (e, sym (ap (λ (b : Bool). cond b x none) no))
+
+-- ---- an answer with the part at which it is refused
+module _ {A : Type 0} (none : A) where
+  pub same_place : (r s : Result A RefusedAt) → answer_number (why_alone r) ≡ answer_number (why_alone s) → given_or none (why_alone r) ≡ given_or none (why_alone s)
+      → part_number r ≡ part_number s → r ≡ s
+  same_place (Ok x) (Ok y) n g p = ap Ok g
+  same_place (Ok x) (Err s) n g p = absurd (not-suc-le-zero {n = 0} (omega (arith, never_zero s.why)))
+  same_place (Err r) (Ok y) n g p = absurd (not-suc-le-zero {n = 0} (omega (arith, never_zero r.why)))
+  same_place (Err r) (Err s) n g p =
+      let w : r.why ≡ s.why = same_refusal r.why s.why n in
+      λ i. Err (record { why = w i; at = p i })

@@ -10,8 +10,7 @@ use lib.Dec.{eqb}
 use lib.ListN.{get_or}
 use Rattle.refusals.specs.declared.Refusal.{Refusal}
 use Rattle.refusals.specs.declared.Refusal.TheVariants.{BrokenLog, BadSpan, BadPower, Clash, FullLog, NoSuchEntry, BadStretch, BadBook, BadYear, FloorAboveCap, TooLarge, BadPeriod, Malformed, NoRoom, BadPiece, ClosedTime, BadPlan, BadCell, HeldAlready, NotOnSheet}
-use Rattle.refusals.specs.declared.Answer.{Answer}
-use Rattle.refusals.specs.declared.Answer.TheVariants.{Done, Refused}
+use Rattle.std.specs.Prelude.{Result, Ok, Err, ⊤}
 use Rattle.refusals.specs.Refusals.{refusal_number, answer_number, first_applicable, accepted, Rows}
 use Rattle.refusals.specs.Order.{in_turn, on_sheets}
 
@@ -92,11 +91,11 @@ never_zero BadCell = omega arith
 never_zero HeldAlready = omega arith
 never_zero NotOnSheet = omega arith
 
-pub same_answer : (a b : Answer) → answer_number a ≡ answer_number b → a ≡ b
-same_answer Done Done e = refl
-same_answer Done (Refused s) e = absurd (not-suc-le-zero {n = 0} (omega (arith, never_zero s)))
-same_answer (Refused r) Done e = absurd (not-suc-le-zero {n = 0} (omega (arith, never_zero r)))
-same_answer (Refused r) (Refused s) e = ap Refused (same_refusal r s e)
+pub same_answer : (a b : Result ⊤ Refusal) → answer_number a ≡ answer_number b → a ≡ b
+same_answer (Ok x) (Ok y) e = refl
+same_answer (Ok x) (Err s) e = absurd (not-suc-le-zero {n = 0} (omega (arith, never_zero s)))
+same_answer (Err r) (Ok y) e = absurd (not-suc-le-zero {n = 0} (omega (arith, never_zero r)))
+same_answer (Err r) (Err s) e = ap Err (same_refusal r s e)
 
 -- where no row applies, each row's test fails, one after the other
 abbrev pub AllClear : Rows → Type 0
@@ -112,16 +111,17 @@ all_clear (row ∷ rows) e = by row.1 e (all_clear rows)
     by false e f = (refl, f e)
 
 -- ---- what an answer says of the rows that it was found by
-pub done_clear : (a : Answer) (rows : Rows) → answer_number a ≡ first_applicable rows → a ≡ Done → first_applicable rows ≡ 0
-done_clear a rows n e = sym n ∙ ap answer_number e
+module _ {A : Type 0} (a : Result A Refusal) (rows : Rows) (n : answer_number a ≡ first_applicable rows) where
+  pub done_clear : (x : A) → a ≡ Ok x → first_applicable rows ≡ 0
+  done_clear x e = sym n ∙ ap answer_number e
 
-pub done_accepted : (a : Answer) (rows : Rows) → answer_number a ≡ first_applicable rows → a ≡ Done → accepted rows ≡ true
-done_accepted a rows n e = eq-eqb (first_applicable rows) 0 (done_clear a rows n e)
+  pub done_accepted : (x : A) → a ≡ Ok x → accepted rows ≡ true
+  done_accepted x e = eq-eqb (first_applicable rows) 0 (done_clear x e)
 
-pub refused_not : (a : Answer) (rows : Rows) (why : Refusal) → answer_number a ≡ first_applicable rows → a ≡ Refused why → accepted rows ≡ false
-refused_not a rows why n e =
-    let k : first_applicable rows ≡ refusal_number why = sym n ∙ ap answer_number e in
-    ne_eqb (first_applicable rows) 0 (λ z. not-suc-le-zero {n = 0} (omega (arith, never_zero why)))
+  pub refused_not : (why : Refusal) → a ≡ Err why → accepted rows ≡ false
+  refused_not why e =
+      let k : first_applicable rows ≡ refusal_number why = sym n ∙ ap answer_number e in
+      ne_eqb (first_applicable rows) 0 (λ z. not-suc-le-zero {n = 0} (omega (arith, never_zero why)))
 
 -- from a refusal to its row: where no row before it applies, the last row does, and the refusal is its
 pub last_row : (front : Rows) (last why : Refusal) (t : Bool) → AllClear front → refusal_number why ≡ first_applicable (front ++ ((last, t) ∷ [])) → (t ≡ true) × (why ≡ last)

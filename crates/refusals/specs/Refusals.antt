@@ -1,11 +1,8 @@
 -- The refusals and their numbers: rule 12.1; and the first row that applies: rule 12.2.
-use Rattle.std.specs.Prelude.{Bool, cond, List, [], ◌∷◌, ℕ, eqb}
+use Rattle.std.specs.Prelude.{Bool, cond, List, [], ◌∷◌, ℕ, eqb, Result, Ok, Err}
 use Rattle.refusals.specs.declared.Refusal.{Refusal}
 use Rattle.refusals.specs.declared.Refusal.TheVariants.{BrokenLog, BadSpan, BadPower, Clash, FullLog, NoSuchEntry, BadStretch, BadBook, BadYear, FloorAboveCap, TooLarge, BadPeriod, Malformed, NoRoom, BadPiece, ClosedTime, BadPlan, BadCell, HeldAlready, NotOnSheet}
-use Rattle.refusals.specs.declared.Answer.{Answer}
-use Rattle.refusals.specs.declared.Answer.TheVariants.{Done, Refused}
-use Rattle.refusals.specs.declared.Written.{Written}
-use Rattle.refusals.specs.declared.Written.TheVariants as written
+use Rattle.refusals.specs.declared.RefusedAt.{RefusedAt}
 
 -- rule 12.1: the number of each refusal
 abbrev pub refusal_number : Refusal → ℕ
@@ -31,18 +28,23 @@ refusal_number HeldAlready = 19
 refusal_number NotOnSheet = 20
 
 -- the number of an answer, 0 where the call is not refused
-abbrev pub answer_number : Answer → ℕ
-answer_number Done = 0
-answer_number (Refused why) = refusal_number why
+abbrev pub answer_number : {A : Type 0} → Result A Refusal → ℕ
+answer_number (Ok x) = 0
+answer_number (Err why) = refusal_number why
 
--- the number and the figure of a writing: how many bytes, none where it is refused
-abbrev pub written_number : Written → ℕ
-written_number (written.Length n) = 0
-written_number (written.Refused why) = refusal_number why
+-- what an answer gives, and beside a refusal what is named for that: rule 12.4
+abbrev pub given_or : {A : Type 0} → A → Result A Refusal → A
+given_or none (Ok x) = x
+given_or none (Err why) = none
 
-abbrev pub length_figure : Written → ℕ
-length_figure (written.Length n) = n
-length_figure (written.Refused why) = 0
+-- an answer without the part at which it is refused, and the number of that part, 0 where the call is not refused
+abbrev pub why_alone : {A : Type 0} → Result A RefusedAt → Result A Refusal
+why_alone (Ok x) = Ok x
+why_alone (Err refused) = Err refused.why
+
+abbrev pub part_number : {A : Type 0} → Result A RefusedAt → ℕ
+part_number (Ok x) = 0
+part_number (Err refused) = refused.at
 
 -- the rows that a call checks: each a refusal, and whether it applies
 abbrev pub Rows : Type 0

@@ -4,7 +4,7 @@
 ghost use Rattle.std.specs.Prelude.{◌≡◌};
 ghost use Rattle.refusals.specs.Refusals.{answer_number, refusal_number};
 
-#[derive(Clone, Copy)]
+#[derive(Clone, Copy, Debug, PartialEq, Eq)]
 pub enum Refusal {
     // 1: the log breaks one of its rules
     BrokenLog,
@@ -48,18 +48,11 @@ pub enum Refusal {
     NotOnSheet,
 }
 
-// The answer of a call that gives nothing else.
-#[derive(Clone, Copy)]
-pub enum Answer {
-    Done,
-    Refused(Refusal),
-}
-
-// How many bytes were written into a lent buffer, or why none.
-#[derive(Clone, Copy)]
-pub enum Written {
-    Length(usize),
-    Refused(Refusal),
+// Why something of many parts is refused, and at which of them: the place of a byte, the number of an outage, the index of a cell.
+#[derive(Clone, Copy, Debug, PartialEq, Eq)]
+pub struct RefusedAt {
+    pub why: Refusal,
+    pub at: usize,
 }
 
 impl Refusal {
@@ -92,14 +85,21 @@ impl Refusal {
     }
 }
 
-impl Answer {
-    // 0 where the call did what it was asked, or the refusal's number.
-    pub fn number(self) -> u8
-        ensures { result ≡ answer_number self }
-    {
-        match self {
-            Answer::Done => 0,
-            Answer::Refused(why) => why.number(),
-        }
+// The part aside.
+impl From<RefusedAt> for Refusal {
+    ghost from_gives = { λ refused why. why ≡ refused.why };
+
+    fn from(refused: RefusedAt) -> Refusal {
+        refused.why
+    }
+}
+
+// 0 where a call did what it was asked, or the refusal's number.
+pub fn answer_number<T: Drop>(answer: Result<T, Refusal>) -> u8
+    ensures { result ≡ answer_number answer }
+{
+    match answer {
+        Ok(_) => 0,
+        Err(why) => why.number(),
     }
 }

@@ -1,141 +1,99 @@
 // Returns read and written.
 ghost use Rattle.std.specs.Prelude.{◌≡◌, length};
 
-use super::fields::{KEPT, ROOM, clipped, u16_at, u32_at};
+use super::desk::KEPT;
+use super::fields::{ROOM, behind, u16_at, u32_at};
 use super::{say, sums};
-use refusals::Written;
+use refusals::{Refusal, answer_number};
 use return_printout::print_return;
 use return_reading::read_return;
+use return_refiling::refile as refile_return;
 use return_writing::write_return;
 use std::io;
 use text::Text;
 use year::Year;
 
-// A return read: the year that it gives.
-fn read_all(rt: &impl Print, s: &[u8]) -> io::Result<Year> {
+// A return read: the year that it gives, the fresh one beside a refusal.
+pub(crate) fn read(rt: &impl Print, s: &[u8]) -> io::Result<Year> {
     let read = read_return(s);
-    let answer = read.answer;
-    let y = read.year;
-    say::two(rt, answer.number(), read.place as u64, sums::of_year(y))?;
+    let (n, at) = say::number_at(read);
+    let y = read.unwrap_or(Year::fresh());
+    println!(rt; "{n} {at} {}", sums::of_year(&y))?;
     Ok(y)
 }
 
-pub(crate) fn read(rt: &impl Print, s: &[u8]) -> io::Result<Year> {
-    if s.len() < 1 {
-        return Ok(Year::fresh());
-    }
-    read_all(rt, &s[1..])
-}
-
-pub(crate) fn read_kept(rt: &impl Print, kept: &[u8; KEPT], bytes: usize) -> io::Result<Year> {
-    let all: &[u8] = kept;
-    let n = clipped(bytes, all);
-    read_all(rt, &all[..n])
+// Room to lend. Its length is all that is said of it.
+pub(crate) fn room<const N: usize>() -> [u8; N]
+    ensures { N ≡ length result }
+{
+    [0; N]
 }
 
 // Every byte of a lent buffer as it is before a call.
-pub(crate) fn fill(out: &mut [u8])
-    ensures { length out.new ≡ length out.old }
-{
-    let mut i: usize = 0;
-    while i < out.len() {
-        out[i] = (255 - i % 251) as u8;
-        i += 1;
+fn fill(out: &mut [u8]) {
+    for (i, b) in out.iter_mut().enumerate() {
+        *b = (255 - i % 251) as u8;
     }
-}
-
-fn bytes(rt: &impl Print, out: &[u8]) -> io::Result<()> {
-    let mut i: usize = 0;
-    while i < out.len() {
-        say::byte(rt, out[i])?;
-        i += 1;
-    }
-    Ok(())
 }
 
 // The number, the length and the buffer: its sum, or every byte of it.
-fn told(rt: &impl Print, n: u8, written: usize, out: &[u8], whole: bool) -> io::Result<bool> {
-    say::number(rt, n)?;
-    say::figure(rt, written as u64)?;
-    if whole {
-        bytes(rt, out)?;
-    } else {
-        say::figure(rt, sums::of_bytes(out))?;
+fn told(rt: &impl Print, done: Result<usize, Refusal>, out: &[u8], whole: bool) -> io::Result<()> {
+    let n = answer_number(done);
+    let length = done.unwrap_or(0);
+    print!(rt; "{n} {length}")?;
+    if !whole {
+        return println!(rt; " {}", sums::of_bytes(out));
     }
-    say::end(rt)
-}
-
-pub(crate) fn answer(rt: &impl Print, done: Written, out: &[u8], whole: bool) -> io::Result<bool> {
-    match done {
-        Written::Length(n) => told(rt, 0, n, out, whole),
-        Written::Refused(why) => told(rt, why.number(), 0, out, whole),
+    for b in out {
+        print!(rt; " {b}")?;
     }
+    println!(rt)
 }
 
-fn written(rt: &impl Print, y: Year, out: &mut [u8], whole: bool) -> io::Result<bool> {
-    fill(out);
-    let done = write_return(y, out);
-    answer(rt, done, out, whole)
-}
-
-// Room to lend, as much as two bytes can ask for. Its length is all that is said of it.
-fn room_to_lend() -> [u8; ROOM]
-    ensures { 65535 ≡ length result }
+// What is written into a lent buffer: its sum or all of it said.
+pub(crate) fn lent<F: FnOnce(&mut [u8]) -> Result<usize, Refusal>>(
+    rt: &impl Print,
+    out: &mut [u8],
+    whole: bool,
+    write: F,
+) -> io::Result<()>
+    requires { F.IsAlwaysCallable write }
 {
-    [0; ROOM]
-}
-
-// Room to lend for what may be as long as the kept bytes.
-pub(crate) fn long_room() -> [u8; KEPT]
-    ensures { 262144 ≡ length result }
-{
-    [0; KEPT]
-}
-
-// A year written into a buffer of the room asked for, and its sum or all of it said.
-pub(crate) fn write(rt: &impl Print, s: &[u8], y: Year, whole: bool) -> io::Result<bool> {
-    let mut space = room_to_lend();
-    let n = clipped(u16_at(s, 1) as usize, &space);
-    written(rt, y, &mut space[..n], whole)
-}
-
-fn refiled(rt: &impl Print, s: &[u8], out: &mut [u8]) -> io::Result<bool> {
     fill(out);
-    let done = return_refiling::refile(s, out);
-    answer(rt, done, out, false)
+    let done = write(out);
+    told(rt, done, out, whole)
+}
+
+// A year written into a buffer of the room asked for.
+pub(crate) fn write(rt: &impl Print, s: &[u8], y: &Year, whole: bool) -> io::Result<()> {
+    let mut space = room::<ROOM>();
+    let n = usize::from(u16_at(s, 1)).min(space.len());
+    lent(rt, &mut space[..n], whole, |out| write_return(*y, out))
 }
 
 // A return read and written again.
-pub(crate) fn refile(rt: &impl Print, s: &[u8]) -> io::Result<bool> {
-    if s.len() < 2 {
-        return Ok(false);
-    }
-    let mut space = room_to_lend();
-    let n = clipped(u16_at(s, 0) as usize, &space);
-    refiled(rt, &s[2..], &mut space[..n])
+pub(crate) fn refile(rt: &impl Print, s: &[u8]) -> io::Result<()> {
+    let mut space = room::<ROOM>();
+    let n = usize::from(u16_at(s, 0)).min(space.len());
+    let own = behind(s, 2);
+    lent(rt, &mut space[..n], false, |out| refile_return(own, out))
 }
 
-pub(crate) fn refile_kept(
-    rt: &impl Print,
-    s: &[u8],
-    kept: &[u8; KEPT],
-    bytes: usize,
-) -> io::Result<bool> {
-    let all: &[u8] = kept;
-    let n = clipped(bytes, all);
-    let mut space = long_room();
-    let m = clipped(u32_at(s, 0) as usize, &space);
-    refiled(rt, &all[..n], &mut space[..m])
+pub(crate) fn refile_kept(rt: &impl Print, s: &[u8], kept: &[u8]) -> io::Result<()> {
+    let mut space = room::<KEPT>();
+    let n = (u32_at(s, 0) as usize).min(space.len());
+    lent(rt, &mut space[..n], false, |out| refile_return(kept, out))
 }
 
-// A text: its length and its sum.
-pub(crate) fn printed(rt: &impl Print, n: u8, t: Text) -> io::Result<bool> {
-    let bytes = t.bytes;
-    let length = clipped(t.length, &bytes);
-    say::two(rt, n, length as u64, sums::of_bytes(&bytes[..length]))
+// A text, empty beside a refusal: its length and its sum.
+pub(crate) fn printed(rt: &impl Print, found: Result<Text, Refusal>) -> io::Result<()> {
+    let n = answer_number(found);
+    let text = found.unwrap_or(Text::empty());
+    let length = text.length.min(Text::ROOM);
+    println!(rt; "{n} {length} {}", sums::of_bytes(&text.bytes[..length]))
 }
 
 // What `daysheet` prints of a return.
-pub(crate) fn print(rt: &impl Print, s: &[u8]) -> io::Result<bool> {
-    printed(rt, 0, print_return(s))
+pub(crate) fn print(rt: &impl Print, s: &[u8]) -> io::Result<()> {
+    printed(rt, Ok(print_return(s)))
 }

@@ -8,9 +8,9 @@ use cell_printout::print_cell;
 use cells::{Cell, Slot};
 use codec::number;
 use median_period::{MedianPeriod, gap_of_medians, make_period};
-use settlement::Gap;
+use refusals::{Refusal, answer_number};
 use std::io;
-use workbook_cells::{Exported, export_period, read_cells};
+use workbook_cells::{CellsRead, export_period, read_cells};
 use workbook_filling::fill_workbook;
 
 // A period of three floats, from `at` on.
@@ -24,26 +24,24 @@ fn period_at(s: &[u8], at: usize) -> MedianPeriod
     }
 }
 
+// The end of an answer, which is a period.
 fn say_period(rt: &impl Print, p: MedianPeriod) -> io::Result<()> {
-    say::figure(rt, bits_of(p.first))?;
-    say::figure(rt, bits_of(p.last))?;
-    say::figure(rt, bits_of(p.median))
+    println!(rt;
+        " {} {} {}",
+        bits_of(p.first),
+        bits_of(p.last),
+        bits_of(p.median)
+    )
 }
 
-pub(crate) fn make(rt: &impl Print, s: &[u8]) -> io::Result<bool> {
+pub(crate) fn make(rt: &impl Print, s: &[u8]) -> io::Result<()> {
     let made = make_period(u32_at(s, 0), u32_at(s, 4));
-    let answer = made.answer;
-    let period = made.period;
-    say::number(rt, answer.number())?;
-    say_period(rt, period)?;
-    say::end(rt)
+    print!(rt; "{}", answer_number(made))?;
+    say_period(rt, made.unwrap_or(MedianPeriod::zero()))
 }
 
-pub(crate) fn gap(rt: &impl Print, s: &[u8]) -> io::Result<bool> {
-    match gap_of_medians(period_at(s, 0), period_at(s, 24)) {
-        Gap::Hundredths(n) => say::one(rt, 0, n as u64),
-        Gap::Refused(why) => say::one(rt, why.number(), 0),
-    }
+pub(crate) fn gap(rt: &impl Print, s: &[u8]) -> io::Result<()> {
+    say::one(rt, gap_of_medians(period_at(s, 0), period_at(s, 24)))
 }
 
 // A cell, from `at` on: its kind, and its float.
@@ -60,103 +58,67 @@ fn cell_at(s: &[u8], at: usize) -> Cell
 
 // Whether each of the 28 cells, from the start on, is of a kind that there is.
 pub(crate) fn good_kinds(s: &[u8]) -> bool {
-    let mut i: usize = 0;
-    while i < Slot::CELLS {
-        if 2 < number(s, 9 * i, 1) {
-            return false;
-        }
-        i += 1;
-    }
-    true
+    (0..Slot::CELLS).all(|i| number(s, 9 * i, 1) <= 2)
 }
 
-fn say_kind(rt: &impl Print, kind: u8, bits: u64) -> io::Result<()> {
-    say::byte(rt, kind)?;
-    say::figure(rt, bits)
-}
-
-fn say_cell(rt: &impl Print, slot: Slot) -> io::Result<()> {
-    let cell = slot.cell;
+fn say_cell(rt: &impl Print, cell: Cell) -> io::Result<()> {
     match cell {
-        Cell::Empty => say_kind(rt, 0, 0),
-        Cell::Number(x) => say_kind(rt, 1, bits_of(x)),
-        Cell::Day(x) => say_kind(rt, 2, bits_of(x)),
+        Cell::Empty => print!(rt; " 0 0"),
+        Cell::Number(x) => print!(rt; " 1 {}", bits_of(x)),
+        Cell::Day(x) => print!(rt; " 2 {}", bits_of(x)),
     }
 }
 
-// Says what an export gave: the number, and each cell.
-fn exported(rt: &impl Print, done: Exported) -> io::Result<bool> {
-    let answer = done.answer;
-    let slots = done.slots;
-    say::number(rt, answer.number())?;
-    let mut i: usize = 0;
-    while i < Slot::CELLS {
-        let slot = slots[i];
-        say_cell(rt, slot)?;
-        i += 1;
+// Says what an export gave: the number, and each cell, an empty one beside a refusal.
+fn exported(rt: &impl Print, done: Result<[Slot; Slot::CELLS], Refusal>) -> io::Result<()> {
+    print!(rt; "{}", answer_number(done))?;
+    let slots = done.unwrap_or([Slot { cell: Cell::Empty }; Slot::CELLS]);
+    for slot in &slots {
+        say_cell(rt, slot.cell)?;
     }
-    say::end(rt)
+    println!(rt)
 }
 
 // The amounts, from the start on.
 fn amounts_at(s: &[u8]) -> [i64; Slot::AMOUNTS] {
-    let mut amounts: [i64; Slot::AMOUNTS] = [0; Slot::AMOUNTS];
-    let mut i: usize = 0;
-    while i < Slot::AMOUNTS {
-        amounts[i] = i64_at(s, 8 * i);
-        i += 1;
+    let mut amounts = [0; Slot::AMOUNTS];
+    for (i, z) in amounts.iter_mut().enumerate() {
+        *z = i64_at(s, 8 * i);
     }
     amounts
 }
 
-pub(crate) fn export(rt: &impl Print, s: &[u8]) -> io::Result<bool> {
-    let amounts = amounts_at(s);
-    exported(rt, export_period(amounts, period_at(s, 200)))
+pub(crate) fn export(rt: &impl Print, s: &[u8]) -> io::Result<()> {
+    exported(rt, export_period(amounts_at(s), period_at(s, 200)))
 }
 
 // The 28 cells, from the start on.
 fn slots_at(s: &[u8]) -> [Slot; Slot::CELLS] {
-    let empty = Slot { cell: Cell::Empty };
-    let mut slots = [empty; Slot::CELLS];
-    let mut i: usize = 0;
-    while i < Slot::CELLS {
-        let cell = cell_at(s, 9 * i);
-        slots[i] = Slot { cell };
-        i += 1;
+    let mut slots = [Slot { cell: Cell::Empty }; Slot::CELLS];
+    for (i, slot) in slots.iter_mut().enumerate() {
+        slot.cell = cell_at(s, 9 * i);
     }
     slots
 }
 
-fn say_amounts(rt: &impl Print, amounts: [i64; Slot::AMOUNTS]) -> io::Result<()> {
-    let mut i: usize = 0;
-    while i < Slot::AMOUNTS {
-        let z = amounts[i];
-        say::pounds(rt, z)?;
-        i += 1;
+// The number, the index of a bad cell, the amounts and the period, zeros beside a refusal.
+pub(crate) fn read(rt: &impl Print, s: &[u8]) -> io::Result<()> {
+    let found = read_cells(slots_at(s));
+    let (n, index) = say::number_at(found);
+    let amounts = [0; Slot::AMOUNTS];
+    let period = MedianPeriod::zero();
+    let read = found.unwrap_or(CellsRead { amounts, period });
+    print!(rt; "{n} {index}")?;
+    for z in &read.amounts {
+        print!(rt; " {z}")?;
     }
-    Ok(())
+    say_period(rt, read.period)
 }
 
-pub(crate) fn read(rt: &impl Print, s: &[u8]) -> io::Result<bool> {
-    let slots = slots_at(s);
-    let read = read_cells(slots);
-    let answer = read.answer;
-    let amounts = read.amounts;
-    let period = read.period;
-    say::number(rt, answer.number())?;
-    say::figure(rt, read.index as u64)?;
-    say_amounts(rt, amounts)?;
-    say_period(rt, period)?;
-    say::end(rt)
+pub(crate) fn print(rt: &impl Print, s: &[u8]) -> io::Result<()> {
+    returns::printed(rt, print_cell(u32_at(s, 0) as usize, cell_at(s, 4)))
 }
 
-pub(crate) fn print(rt: &impl Print, s: &[u8]) -> io::Result<bool> {
-    let printed = print_cell(u32_at(s, 0) as usize, cell_at(s, 4));
-    let answer = printed.answer;
-    let text = printed.text;
-    returns::printed(rt, answer.number(), text)
-}
-
-pub(crate) fn fill(rt: &impl Print, s: &[u8]) -> io::Result<bool> {
+pub(crate) fn fill(rt: &impl Print, s: &[u8]) -> io::Result<()> {
     exported(rt, fill_workbook(s))
 }

@@ -1,6 +1,6 @@
 -- The format of the yearly return, as rule 10.2 has it.
 use Rattle.std.specs.Prelude.{Bool, false, cond, not, ◌&&◌, List, [], ◌∷◌, ◌++◌, ℕ, leb, ltb, eqb, ℤ, pos}
-use Rattle.std.proofs.Math.Option.{Option, some, none}
+use Rattle.std.specs.Prelude.{Option, Some, None}
 use Rattle.money.specs.Pounds.{is_none}
 use Rattle.calendar.specs.Years.{last_year, year_start, year_end}
 use Rattle.entries.specs.declared.Entry.{Entry}
@@ -30,11 +30,11 @@ aic_value = num 2 0 20000
 -- 05: the partial-year factors (SC2 22, 23), and those that a return leaves out, and may not have: in year 1 those of 335 days of
 -- 365, in years 2 to 24 those of a whole year, in year 25 none
 abbrev pub left_out : ℕ → Option (ℕ × ℕ)
-left_out number = cond (eqb number 1) (some (9178, 9178)) (cond (eqb number last_year) none (some (10000, 10000)))
+left_out number = cond (eqb number 1) (Some (9178, 9178)) (cond (eqb number last_year) None (Some (10000, 10000)))
 
 abbrev pub are_these : Option (ℕ × ℕ) → ℕ × ℕ → Bool
-are_these none f = false
-are_these (some these) f = eqb f.0 these.0 && eqb f.1 these.1
+are_these None f = false
+are_these (Some these) f = eqb f.0 these.0 && eqb f.1 these.1
 
 abbrev pub is_left_out : ℕ → ℕ × ℕ → Bool
 is_left_out number f = are_these (left_out number) f
@@ -96,11 +96,11 @@ outages number = many (entry_item number) slots
 
 -- the mark: 1 where it is there, 0 where it is left out
 abbrev pub mark : Codec ℕ
-mark = opt (tagged 8 mark_value) (some 0) (λ n. eqb n 0)
+mark = opt (tagged 8 mark_value) (Some 0) (λ n. eqb n 0)
 
 -- the adjustment: 0 where it is left out
 abbrev pub wpa : Codec ℤ
-wpa = opt (tagged 9 wpa_value) (some (pos 0)) is_none
+wpa = opt (tagged 9 wpa_value) (Some (pos 0)) is_none
 
 -- ---- the fields in their order
 -- the four required fields

@@ -1,19 +1,17 @@
 -- What reading and writing a return give: rules 10.3 to 10.7, 12.3 and 12.4.
 use Rattle.std.specs.Prelude.{Bool, cond, not, ◌&&◌, List, [], ◌∷◌, ℕ, ltb, eqb, length, take}
-use Rattle.std.proofs.Math.Option.{Option, some, none}
+use Rattle.std.specs.Prelude.{Option, Some, None}
 use Rattle.lists.specs.Lists.{all, padded}
 use Rattle.refusals.specs.Refusals.{Rows, accepted}
 use Rattle.refusals.specs.declared.Refusal.TheVariants.{BrokenLog, BadYear, Malformed, NoRoom}
-use Rattle.refusals.specs.declared.Answer.TheVariants.{Refused}
+use Rattle.refusals.specs.declared.RefusedAt.{RefusedAt}
 use Rattle.outage.specs.declared.Log.{Log}
 use Rattle.outage.specs.Log.{last_regime_end, valid_log, log_entries, log_holding}
 use Rattle.year.specs.declared.Year.{Year}
 use Rattle.year.specs.Year.{fresh_year, good_year, line_slots, zero_line}
 use Rattle.codec.specs.Message as Message
 use Rattle.codec.specs.Message.{length_in, buffer_in}
-use Rattle.return_format.specs.declared.Return.{Return}
-use Rattle.return_format.specs.declared.LeftOut.{LeftOut}
-use Rattle.return_format.specs.declared.LeftOut.TheVariants as L
+use Rattle.return_format.specs.declared.Factors.{Factors}
 use Rattle.return_format.specs.Form.{Parts, form, starts_in}
 pub use Rattle.return_format.specs.Form.{left_out, is_left_out}
 pub use Rattle.codec.specs.Message.{whole, refused, is_refused, place_in}
@@ -76,14 +74,14 @@ read_place bs = place_in (reading_of bs)
 abbrev pub read_year : List ℕ → Year
 read_year bs = year_in (reading_of bs)
 
--- the factors that a return leaves out as the call gives them
-abbrev pub left_out_as : Option (ℕ × ℕ) → LeftOut
-left_out_as none = L.Not
-left_out_as (some f) = L.Are (record { pyc = f.0; pyf = f.1 })
+-- factors, if any, as calls give them
+abbrev pub factors_as : Option (ℕ × ℕ) → Option Factors
+factors_as None = None
+factors_as (Some f) = Some (record { pyc = f.0; pyf = f.1 })
 
--- a refused reading as the call gives it
-abbrev pub refused_at : ℕ → Return
-refused_at place = record { answer = Refused Malformed; place = place; year = fresh_year }
+-- a refused reading as calls give it
+abbrev pub refused_at : ℕ → RefusedAt
+refused_at place = record { why = Malformed; at = place }
 
 -- ---- writing
 -- rules 10.3 and 12.1, 9: the log runs to the return's regime end, all of it is open, and each outage starts in the year

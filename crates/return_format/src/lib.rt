@@ -1,32 +1,20 @@
-// The yearly return: its limits and tags, and what reading one gives. Rules, section 10.
+// The yearly return: its limits and tags, the refusal of one, and the factors that one leaves out. Rules, section 10.
 #![tactic(auto)]
 
 ghost use Rattle.std.specs.Prelude.{◌≡◌};
-ghost use Rattle.return_format.specs.Return.{is_left_out, left_out, left_out_as, refused_at};
+ghost use Rattle.return_format.specs.Return.{factors_as, is_left_out, left_out, refused_at};
 
-use refusals::{Answer, Refusal};
+use refusals::{Refusal, RefusedAt};
 use year::Year;
 
-// A return as it was read: the answer, the place of a refusal, and the year, which is fresh beside a refusal.
-#[derive(Clone, Copy)]
-pub struct Return {
-    pub answer: Answer,
-    pub place: usize,
-    pub year: Year,
-}
+// The yearly return.
+pub struct Return;
 
 // The partial-year factors for cap and floor, PYC and PYF.
-#[derive(Clone, Copy)]
+#[derive(Clone, Copy, Debug, PartialEq, Eq)]
 pub struct Factors {
     pub pyc: u16,
     pub pyf: u16,
-}
-
-// The factors that a return leaves out, or that it leaves out none.
-#[derive(Clone, Copy)]
-pub enum LeftOut {
-    Are(Factors),
-    Not,
 }
 
 impl Return {
@@ -50,15 +38,13 @@ impl Return {
 
     pub const WPA: u8 = 9;
 
-    // A refused reading: 13, the place, and a fresh year.
-    pub fn refused(place: usize) -> Return
+    // A refused reading: 13, and the place.
+    pub fn refused(place: usize) -> RefusedAt
         ensures { result ≡ refused_at place }
     {
-        let year = Year::fresh();
-        Return {
-            answer: Answer::Refused(Refusal::Malformed),
-            place,
-            year,
+        RefusedAt {
+            why: Refusal::Malformed,
+            at: place,
         }
     }
 }
@@ -69,35 +55,27 @@ impl Factors {
 
     pub const WHOLE_YEAR: u16 = Year::MOST_PARTIAL;
 
-    // The factors that a return of this year leaves out: rule 10.2.
-    pub fn left_out(number: u8) -> LeftOut
-        ensures { result ≡ left_out_as (left_out number) }
+    // The factors that a return of this year leaves out, if any: rule 10.2.
+    pub fn left_out(number: u8) -> Option<Factors>
+        ensures { result ≡ factors_as (left_out number) }
     {
-        if number == Year::FIRST {
-            return LeftOut::Are(Factors {
+        match number {
+            Year::FIRST => Some(Factors {
                 pyc: Factors::FIRST_YEAR,
                 pyf: Factors::FIRST_YEAR,
-            });
+            }),
+            Year::LAST => None,
+            _ => Some(Factors {
+                pyc: Factors::WHOLE_YEAR,
+                pyf: Factors::WHOLE_YEAR,
+            }),
         }
-        if number == Year::LAST {
-            return LeftOut::Not;
-        }
-        LeftOut::Are(Factors {
-            pyc: Factors::WHOLE_YEAR,
-            pyf: Factors::WHOLE_YEAR,
-        })
     }
 
     // Whether these are the factors that a return of this year leaves out.
     pub fn are_left_out(self, number: u8) -> bool
         ensures { result ≡ is_left_out number (self.pyc, self.pyf) }
     {
-        let LeftOut::Are(these) = Factors::left_out(number) else {
-            return false;
-        };
-        if self.pyc != these.pyc {
-            return false;
-        }
-        self.pyf == these.pyf
+        Factors::left_out(number) == Some(self)
     }
 }

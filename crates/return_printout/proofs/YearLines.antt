@@ -13,7 +13,7 @@ use Rattle.lists.proofs.Tests.{not_no}
 use Rattle.refusals.specs.Refusals.{accepted, first_applicable, refusal_number}
 use Rattle.refusals.specs.declared.Refusal.{Refusal}
 use Rattle.refusals.proofs.Laws.{all_clear, never_zero}
-use Rattle.calendar.specs.Years.{is_leap, days_in, days_to, year_start, year_end, last_year, first_given, end_given}
+use Rattle.calendar.specs.Years.{is_leap, days_in, days_to, year_start, year_end, last_year, minutes_given}
 use Rattle.calendar.proofs.Laws.{year_two, last_start, year_within}
 use Rattle.outage.specs.Log.{last_regime_end}
 use Rattle.outage.specs.Calls.{lost_of}
@@ -60,11 +60,8 @@ module _ (y : Year) (v : valid_year y ≡ true) where
   inside = year_within last_regime_end y.number (omega arith) said.from_first said.to_last
 
   -- what the calendar gives for it
-  pub first_is : first_given y.number ≡ first
-  first_is = rw said.number
-
-  pub end_is : end_given y.number last_regime_end ≡ end
-  end_is = rw said.number
+  pub minutes_is : minutes_given y.number last_regime_end ≡ record { first = first; end = end }
+  minutes_is = rw said.number refl
 
   -- what the log gives for it
   pub lost_is : lost_of y.log first end ≡ lost_in_year y

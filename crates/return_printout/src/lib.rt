@@ -9,10 +9,10 @@ ghost use Rattle.return_format.specs.Return.{valid_year};
 ghost use Rattle.return_printout.specs.Printout.{line_of, lost_after, lost_in_year, printed_year, refusal_of, year_lines, PrintGives};
 
 use calendar::year_minutes;
-use outage::{Log, LostEnergy, lost_energy};
-use refusals::{Answer, Refusal};
+use outage::{Log, lost_energy};
+use refusals::Refusal;
 use return_reading::read_return;
-use revenue::{Revenue, revenue_of};
+use revenue::revenue_of;
 use text::{Text, push, push_all, push_decimal, push_signed};
 use year::Year;
 
@@ -52,10 +52,7 @@ pub fn print_refusal(why: Refusal) -> Text
 fn lost_between(log: Log, a: u32, b: u32) -> u64
     ensures { result ≡ lost_of log a b }
 {
-    match lost_energy(log, a, b) {
-        LostEnergy::MwMinutes(x) => x,
-        LostEnergy::Refused(_) => 0,
-    }
+    lost_energy(log, a, b).unwrap_or(0)
 }
 
 // The four lines of a year, of its figures.
@@ -73,12 +70,9 @@ fn year_lines(y: Year, pounds: i64) -> Text
     requires { valid_year y ≡ true }
     ensures { result ≡ pushed (text_of []) (year_lines y.number (lost_in_year y) (lost_after y) pounds) }
 {
-    let log = y.log;
-    let minutes = year_minutes(y.number, Log::LAST_REGIME_END);
-    let first = minutes.first_minute();
-    let end = minutes.end_minute();
-    let lost = lost_between(log, first, end);
-    let carried = lost_between(log, end, Log::LAST_REGIME_END);
+    let minutes = year_minutes(y.number, Log::LAST_REGIME_END).unwrap();
+    let lost = lost_between(y.log, minutes.first, minutes.end);
+    let carried = lost_between(y.log, minutes.end, Log::LAST_REGIME_END);
     lines_of(y.number, lost, carried, pounds)
 }
 
@@ -88,8 +82,8 @@ fn print_year(y: Year) -> Text
     ensures { result ≡ pushed (text_of []) (printed_year y) }
 {
     match revenue_of(y) {
-        Revenue::Pounds(z) => year_lines(y, z),
-        Revenue::Refused(why) => refusal(why),
+        Ok(z) => year_lines(y, z),
+        Err(why) => refusal(why),
     }
 }
 
@@ -97,11 +91,8 @@ fn print_year(y: Year) -> Text
 pub fn print_return(s: &[u8]) -> Text
     ensures { PrintGives s.now result }
 {
-    let read = read_return(s);
-    let answer = read.answer;
-    if let Answer::Refused(why) = answer {
-        return refusal(why);
+    match read_return(s) {
+        Ok(y) => print_year(y),
+        Err(refused) => refusal(refused.why),
     }
-    let y = read.year;
-    print_year(y)
 }

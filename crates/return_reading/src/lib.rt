@@ -6,46 +6,42 @@ mod rows;
 
 ghost use Rattle.std.specs.Prelude.{◌≡◌, true, ◌≤◌, length};
 ghost use Rattle.calendar.specs.Years.{good_year_number};
-ghost use Rattle.return_format.specs.Return.{most_bytes};
-ghost use Rattle.return_reading.specs.Steps.{HeadRead, RequiredRead, TailRead};
+ghost use Rattle.return_reading.specs.Steps.{RequiredRead, TailRead};
 ghost use Rattle.return_reading.specs.Reading.{ReturnGives};
 
-use codec::{FoundNumber, number_field};
-use fields::{FactorsFrom, factors_from, mark_from, wpa_from};
+use codec::number_field;
+use fields::{Read, factors_from, mark_from, wpa_from};
 use outage::Log;
-use refusals::Answer;
+use refusals::RefusedAt;
 use return_format::Return;
-use rows::{lines_from, outages_from};
-use year::{Line, Year};
+use rows::{Lines, lines_from, outages_from};
+use year::Year;
 
-// What follows the factors, and where the next field starts.
+// What follows the factors.
 #[derive(Clone, Copy)]
 struct Tail {
-    lines: [Line; Year::LINES],
-    line_count: usize,
+    lines: Lines,
+    log: Log,
     exceptional: bool,
     wpa: i64,
-    log: Log,
-    next: usize,
 }
 
-fn tail_from(s: &[u8], from: usize, year: u8) -> Tail
+fn tail_from(s: &[u8], from: usize, year: u8) -> Read<Tail>
     requires { (from ≤ length s.now) × (good_year_number year ≡ true) }
     ensures { TailRead year s.now from result }
 {
-    let lined = lines_from(s, from);
-    let outages = outages_from(s, lined.next, year);
-    let marked = mark_from(s, outages.next);
-    let paid = wpa_from(s, marked.next);
-    let lines = lined.lines;
-    let log = outages.log;
-    Tail {
-        lines,
-        line_count: lined.count,
-        exceptional: marked.exceptional,
-        wpa: paid.wpa,
-        log,
-        next: paid.next,
+    let lines = lines_from(s, from);
+    let log = outages_from(s, lines.next, year);
+    let exceptional = mark_from(s, log.next);
+    let wpa = wpa_from(s, exceptional.next);
+    Read {
+        value: Tail {
+            lines: lines.value,
+            log: log.value,
+            exceptional: exceptional.value,
+            wpa: wpa.value,
+        },
+        next: wpa.next,
     }
 }
 
@@ -58,55 +54,24 @@ struct Head {
     aic: u16,
 }
 
-// The four required fields, or the place of the first that is not there.
-#[derive(Clone, Copy)]
-enum Required {
-    Are(Head),
-    Not(usize),
-}
-
 impl Head {
     // How many bytes the four fields have.
     const BYTES: usize = 23;
 }
 
-fn required_of(s: &[u8]) -> Required
+// The four required fields, or the place of the first that is not there.
+fn required_of(s: &[u8]) -> Result<Head, RefusedAt>
     ensures { RequiredRead s.now result }
 {
-    let FoundNumber::Is(number) = number_field(
-        s,
-        0,
-        Return::YEAR,
-        1,
-        Year::FIRST as u64,
-        Year::LAST as u64,
-    ) else {
-        return Required::Not(0);
-    };
-    let FoundNumber::Is(pppi) = number_field(
-        s,
-        4,
-        Return::PPPI,
-        4,
-        Year::LEAST_PPPI as u64,
-        Year::MOST_PPPI as u64,
-    ) else {
-        return Required::Not(4);
-    };
-    let FoundNumber::Is(rate) = number_field(
-        s,
-        11,
-        Return::RATE,
-        4,
-        Year::LEAST_RATE as u64,
-        Year::MOST_RATE as u64,
-    ) else {
-        return Required::Not(11);
-    };
-    let FoundNumber::Is(aic) = number_field(s, 18, Return::AIC, 2, 0, Year::MOST_AIC as u64) else {
-        return Required::Not(18);
-    };
-    Required::Are(Head {
+    let (least, most) = (u64::from(Year::FIRST), u64::from(Year::LAST));
+    let number = number_field(s, 0, Return::YEAR, 1, least, most).ok_or(Return::refused(0))?;
+    let (least, most) = (u64::from(Year::LEAST_PPPI), u64::from(Year::MOST_PPPI));
+    let pppi = number_field(s, 4, Return::PPPI, 4, least, most).ok_or(Return::refused(4))?;
+    let (least, most) = (u64::from(Year::LEAST_RATE), u64::from(Year::MOST_RATE));
+    let rate = number_field(s, 11, Return::RATE, 4, least, most).ok_or(Return::refused(11))?;
+    let most = u64::from(Year::MOST_AIC);
+    let aic = number_field(s, 18, Return::AIC, 2, 0, most).ok_or(Return::refused(18))?;
+    Ok(Head {
         number: number as u8,
         pppi: pppi as u32,
         rate: rate as u32,
@@ -114,50 +79,32 @@ fn required_of(s: &[u8]) -> Required
     })
 }
 
-// The return whose four required fields are read.
-fn read_on(s: &[u8], h: Head) -> Return
-    requires { (length s.now ≤ most_bytes) × HeadRead s.now h }
-    ensures { ReturnGives s.now result }
-{
-    let FactorsFrom::Are(f) = factors_from(s, Head::BYTES, h.number) else {
-        return Return::refused(Head::BYTES);
-    };
-    let tail = tail_from(s, f.next, h.number);
-    if tail.next < s.len() {
-        return Return::refused(tail.next);
-    }
-    let lines = tail.lines;
-    let log = tail.log;
-    let year = Year {
-        number: h.number,
-        pppi: h.pppi,
-        rate: h.rate,
-        aic: h.aic,
-        pyc: f.pyc,
-        pyf: f.pyf,
-        lines,
-        line_count: tail.line_count,
-        exceptional: tail.exceptional,
-        wpa: tail.wpa,
-        log,
-    };
-    Return {
-        answer: Answer::Done,
-        place: 0,
-        year,
-    }
-}
-
-// The year that all of the bytes are a return of; else 13, with the place of the first byte of the first field that cannot
-// be taken where it stands, and a fresh year.
-pub fn read_return(s: &[u8]) -> Return
+// The year that all of the bytes are a return of; else 13, at the place of the first byte of the first field that cannot be
+// taken where it stands.
+pub fn read_return(s: &[u8]) -> Result<Year, RefusedAt>
     ensures { ReturnGives s.now result }
 {
     if Return::MOST_BYTES < s.len() {
-        return Return::refused(Return::MOST_BYTES);
+        return Err(Return::refused(Return::MOST_BYTES));
     }
-    match required_of(s) {
-        Required::Are(h) => read_on(s, h),
-        Required::Not(place) => Return::refused(place),
+    let head = required_of(s)?;
+    let factors = factors_from(s, Head::BYTES, head.number).ok_or(Return::refused(Head::BYTES))?;
+    let tail = tail_from(s, factors.next, head.number);
+    if tail.next < s.len() {
+        return Err(Return::refused(tail.next));
     }
+    let lines = tail.value.lines.lines;
+    Ok(Year {
+        number: head.number,
+        pppi: head.pppi,
+        rate: head.rate,
+        aic: head.aic,
+        pyc: factors.value.pyc,
+        pyf: factors.value.pyf,
+        lines,
+        line_count: tail.value.lines.count,
+        exceptional: tail.value.exceptional,
+        wpa: tail.value.wpa,
+        log: tail.value.log,
+    })
 }

@@ -1,7 +1,7 @@
 -- A return that is read and written again: rule 10.6 as a call.
-use Rattle.std.specs.Prelude.{List, [], ◌∷◌, ◌≡◌, ℕ, ltb, length}
-use Rattle.refusals.specs.Refusals.{Rows, accepted, first_applicable, written_number, length_figure}
-use Rattle.refusals.specs.declared.Written.{Written}
+use Rattle.std.specs.Prelude.{List, [], ◌∷◌, ◌≡◌, ℕ, ltb, length, Result}
+use Rattle.refusals.specs.Refusals.{Rows, accepted, first_applicable, answer_number, given_or}
+use Rattle.refusals.specs.declared.Refusal.{Refusal}
 use Rattle.refusals.specs.declared.Refusal.TheVariants.{Malformed, NoRoom}
 use Rattle.codec.specs.Message.{length_in, buffer_in}
 use Rattle.return_format.specs.Return.{reading_of, is_refused}
@@ -18,6 +18,6 @@ abbrev pub refiled_buffer : List ℕ → List ℕ → List ℕ
 refiled_buffer bs out = buffer_in (accepted (refile_rows bs (length out))) bs out
 
 -- what `refile` promises of its result, and of the buffer after it
-abbrev pub RefileGives : List ℕ → List ℕ → Written → List ℕ → Type 0
+abbrev pub RefileGives : List ℕ → List ℕ → Result ℕ Refusal → List ℕ → Type 0
 RefileGives bs out r after =
-    (written_number r ≡ first_applicable (refile_rows bs (length out))) × (length_figure r ≡ refiled_length bs (length out)) × (after ≡ refiled_buffer bs out)
+    (answer_number r ≡ first_applicable (refile_rows bs (length out))) × (given_or 0 r ≡ refiled_length bs (length out)) × (after ≡ refiled_buffer bs out)

@@ -3,19 +3,14 @@
 
 ghost use Rattle.return_refiling.specs.Refiled.{RefileGives};
 
-use refusals::{Answer, Written};
+use refusals::Refusal;
 use return_reading::read_return;
 use return_writing::write_return;
 
 // The bytes of a return at the front of the buffer, and their number; or 13 or 14, and not a byte written.
-pub fn refile(s: &[u8], out: &mut [u8]) -> Written
+pub fn refile(s: &[u8], out: &mut [u8]) -> Result<usize, Refusal>
     ensures { RefileGives s.now out.old result out.new }
 {
-    let read = read_return(s);
-    let answer = read.answer;
-    if let Answer::Refused(why) = answer {
-        return Written::Refused(why);
-    }
-    let y = read.year;
+    let y = read_return(s)?;
     write_return(y, out)
 }

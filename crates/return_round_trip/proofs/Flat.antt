@@ -4,7 +4,7 @@ use mathlib.Core.Path.{◌≡◌, refl, sym, ap, subst, ◌∙◌}
 use mathlib.Core.Bool.{Bool, true, false, cond, not, ◌&&◌, ◌||◌}
 use mathlib.Core.Logic.{◌⊎◌, inl, inr}
 use mathlib.Core.List.{List, [], ◌∷◌, ◌++◌, append-nil, append_assoc, map}
-use mathlib.Core.Option.{some, none}
+use Rattle.std.specs.Prelude.{Some, None}
 use Prim.Native.Nat.{ℕ, suc, ◌≤◌, ◌<◌}
 use native.Mathlib.Omega.{arith}
 use borrow.Author.Tests.{eq-eqb, ne_eqb, leb-true, le-leb, lt-ltb, le-ltb}
@@ -59,7 +59,7 @@ parts_flat a b c d e f g h i j = simp joined_append cc
 left_out_flat : (y : Year) → is_left_out y.number (y.pyc, y.pyf) ≡ leaves_factors y
 left_out_flat y = by (eqb y.number 1) (eqb y.number last_year)
   where
-    by : (first last : Bool) → are_these (cond first (some (9178, 9178)) (cond last none (some (10000, 10000)))) (y.pyc, y.pyf)
+    by : (first last : Bool) → are_these (cond first (Some (9178, 9178)) (cond last None (Some (10000, 10000)))) (y.pyc, y.pyf)
         ≡ cond first (both_are 9178 y) (cond last false (both_are 10000 y))
     by true last = refl
     by false true = refl

@@ -2,7 +2,7 @@
 use mathlib.Core.Path.{◌≡◌, refl, sym, ap}
 use mathlib.Core.Bool.{Bool, true, false, not, ◌&&◌, ◌||◌}
 use mathlib.Core.List.{List}
-use mathlib.Core.Option.{Option, some, none}
+use Rattle.std.specs.Prelude.{Option, Some, None}
 use Prim.Native.Nat.{ℕ, suc}
 use native.Mathlib.Omega.{arith}
 use borrow.Author.Tests.{eq-eqb, eqb-true, le-leb, leb-true}
@@ -68,14 +68,14 @@ wpa_item : ItemLaws (tagged 9 wpa_value)
 wpa_item = tagged_laws 9 wpa_value (omega arith) wpa_laws
 
 -- ---- what is left out
-these_are : (o : Option (ℕ × ℕ)) (f : ℕ × ℕ) → are_these o f ≡ true → o ≡ some f
-these_are none f h = absurd (let z : ◌≡◌ {A = ℕ} 0 1 = cc in omega arith)
-these_are (some these) f h =
+these_are : (o : Option (ℕ × ℕ)) (f : ℕ × ℕ) → are_these o f ≡ true → o ≡ Some f
+these_are None f h = cc
+these_are (Some these) f h =
     let e : these.0 ≡ f.0 = sym (eqb-true f.0 these.0 (and_left (eqb f.0 these.0) (eqb f.1 these.1) h)) in
     let g : these.1 ≡ f.1 = sym (eqb-true f.1 these.1 (and_right (eqb f.0 these.0) (eqb f.1 these.1) h)) in
-    λ i. some (e i, g i)
+    λ i. Some (e i, g i)
 
-are_these_law : (o : Option (ℕ × ℕ)) (f : ℕ × ℕ) → o ≡ some f → are_these o f ≡ true
+are_these_law : (o : Option (ℕ × ℕ)) (f : ℕ × ℕ) → o ≡ Some f → are_these o f ≡ true
 are_these_law o f h = rw h (and_made (eq-eqb f.0 f.0 refl) (eq-eqb f.1 f.1 refl))
 
 pub none_is : (z : ℤ) → is_none z ≡ true → z ≡ pos 0
@@ -105,11 +105,11 @@ factors_ok number pyc pyf c f =
 
 mark_lawful : Lawful mark 8 9
 mark_lawful =
-    opt_lawful (tagged 8 mark_value) mark_item (some 0) (λ n. eqb n 0) (λ n h. let e : 0 ≡ n = cc in eq-eqb n 0 (sym e)) (λ n h. ap some (sym (eqb-true n 0 h))) mark_fine
+    opt_lawful (tagged 8 mark_value) mark_item (Some 0) (λ n. eqb n 0) (λ n h. let e : 0 ≡ n = cc in eq-eqb n 0 (sym e)) (λ n h. ap Some (sym (eqb-true n 0 h))) mark_fine
 
 wpa_lawful : Lawful wpa 9 10
 wpa_lawful =
-    opt_lawful (tagged 9 wpa_value) wpa_item (some (pos 0)) is_none (λ z h. let e : pos 0 ≡ z = cc in rw (← e)) (λ z h. ap some (sym (none_is z h)))
+    opt_lawful (tagged 9 wpa_value) wpa_item (Some (pos 0)) is_none (λ z h. let e : pos 0 ≡ z = cc in rw (← e)) (λ z h. ap Some (sym (none_is z h)))
     (λ z h. not_yes (is_none z) (and_right (leb (nat_abs z) 1000000000) (not (is_none z)) h))
 
 required_lawful : Lawful required 1 5
@@ -143,8 +143,8 @@ body_placed number =
     both_placed _ _ 5 6 (factors_lawful number) (opt_placed (tagged 5 (factors_value number)) (factors_item number) (left_out number) (is_left_out number) (0, 0) (factors_ok number 0 0 refl refl)) (λ f.
     both_placed _ _ 6 7 (many_lawful line_item line_item_law line_slots 6 6 (λ before. refl) (λ before. refl)) (many_placed line_item line_item_law line_slots) (λ l.
     both_placed _ _ 7 8 (many_lawful (entry_item number) (entry_item_law number) slots 7 7 (λ before. refl) (λ before. refl)) (many_placed (entry_item number) (entry_item_law number) slots) (λ o.
-    both_placed _ _ 8 9 mark_lawful (opt_placed (tagged 8 mark_value) mark_item (some 0) (λ n. eqb n 0) 0 refl) (λ m.
-    opt_placed (tagged 9 wpa_value) wpa_item (some (pos 0)) is_none (pos 0) refl))))
+    both_placed _ _ 8 9 mark_lawful (opt_placed (tagged 8 mark_value) mark_item (Some 0) (λ n. eqb n 0) 0 refl) (λ m.
+    opt_placed (tagged 9 wpa_value) wpa_item (Some (pos 0)) is_none (pos 0) refl))))
 
 pub form_placed : Placed form
 unfolding form
@@ -163,8 +163,8 @@ body_numbered number =
     both_numbered _ _ (opt_numbered (tagged 5 (factors_value number)) (factors_item number) (left_out number) (is_left_out number)) (λ f.
     both_numbered _ _ (many_numbered line_item line_item_law line_slots) (λ l.
     both_numbered _ _ (many_numbered (entry_item number) (entry_item_law number) slots) (λ o.
-    both_numbered _ _ (opt_numbered (tagged 8 mark_value) mark_item (some 0) (λ n. eqb n 0)) (λ m.
-    opt_numbered (tagged 9 wpa_value) wpa_item (some (pos 0)) is_none))))
+    both_numbered _ _ (opt_numbered (tagged 8 mark_value) mark_item (Some 0) (λ n. eqb n 0)) (λ m.
+    opt_numbered (tagged 9 wpa_value) wpa_item (Some (pos 0)) is_none))))
 
 pub form_numbered : Numbered form malformed
 unfolding form

@@ -4,7 +4,7 @@
 use mathlib.Core.Path.{◌≡◌, refl, sym, ap, ◌∙◌}
 use mathlib.Core.Bool.{cond}
 use mathlib.Core.List.{List, [], ◌∷◌}
-use mathlib.Core.Option.{none}
+use Rattle.std.specs.Prelude.{None}
 use Prim.Native.Nat.{ℕ, ◌≤◌, ◌<◌}
 use native.Mathlib.Nat.{not-suc-le-zero}
 use native.Mathlib.Omega.{arith}
@@ -52,7 +52,7 @@ pub longer_refused : (bs : List ℕ) → most_bytes < length bs → reading_of b
 longer_refused bs h = Message.longer form year_of most_bytes bs h
 
 -- rule 10.5: year 25 without its factors
-pub no_factors_refused : (bs : List ℕ) → length bs ≤ most_bytes → {rest : ℕ × (ℕ × ℕ)} → ReadAt required bs 0 (25, rest) 23 → field 5 (factors_value 25) (drop 23 bs) ≡ none → reading_of bs ≡ refused malformed 23
+pub no_factors_refused : (bs : List ℕ) → length bs ≤ most_bytes → {rest : ℕ × (ℕ × ℕ)} → ReadAt required bs 0 (25, rest) 23 → field 5 (factors_value 25) (drop 23 bs) ≡ None → reading_of bs ≡ refused malformed 23
 unfolding form
 no_factors_refused bs few head e =
     stopped_whole form year_of most_bytes bs few

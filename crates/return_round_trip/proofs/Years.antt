@@ -2,7 +2,7 @@
 use mathlib.Core.Path.{◌≡◌, refl, sym, ap, ◌∙◌}
 use mathlib.Core.Bool.{Bool, true, false, cond, not, ◌&&◌, ◌||◌}
 use mathlib.Core.List.{List, [], ◌∷◌, ◌++◌, append-nil}
-use mathlib.Core.Option.{some, none}
+use Rattle.std.specs.Prelude.{Some, None}
 use Prim.Native.Nat.{ℕ, ◌≤◌}
 use native.Mathlib.Omega.{arith}
 use borrow.Author.Tests.{eqb-true, leb-true, le-leb}
@@ -160,9 +160,9 @@ left_out_small number f h = by (eqb number 1) (eqb number last_year) h
         let b : f.1 ≡ k = eqb-true f.1 k (and_right (eqb f.0 k) (eqb f.1 k) e) in
         (omega arith, omega arith)
 
-    by : (first last : Bool) → are_these (cond first (some (9178, 9178)) (cond last none (some (10000, 10000)))) f ≡ true → (f.0 ≤ 10000) × (f.1 ≤ 10000)
+    by : (first last : Bool) → are_these (cond first (Some (9178, 9178)) (cond last None (Some (10000, 10000)))) f ≡ true → (f.0 ≤ 10000) × (f.1 ≤ 10000)
     by true last e = same 9178 (omega arith) e
-    by false true e = absurd (let z : ◌≡◌ {A = ℕ} 0 1 = cc in omega arith)
+    by false true e = cc
     by false false e = same 10000 (omega arith) e
 
 factors_small : (number : ℕ) (f : ℕ × ℕ) → (factors number).ok f ≡ true → (leb f.0 10000 && leb f.1 10000) ≡ true

@@ -1,10 +1,15 @@
 -- How many bytes each part of a return has. Assumes nothing.
-use mathlib.Core.Path.{◌≡◌, refl, ap, ap₂, ◌∙◌}
+use mathlib.Core.Path.{◌≡◌, refl, sym, ap, ap₂, ◌∙◌}
 use mathlib.Core.Bool.{Bool, true, false, cond}
 use mathlib.Core.List.{List, [], ◌∷◌, ◌++◌}
 use Prim.Native.Nat.{ℕ, ◌+◌, ◌*◌, ◌≤◌, ◌<◌}
 use native.Mathlib.Omega.{arith}
-use lib.IntN.{ℤ}
+use borrow.Author.Tests.{ne_eqb}
+use lib.IntN.{ℤ, pos, negsuc, nat_abs}
+use mir.Syntax.{w64}
+use mir.Val.{SFits, to_z, of_z}
+use mir.Facts.{to_z-of_z}
+use Rattle.money.specs.Pounds.{is_none}
 use native.Mathlib.Numerals.{add-one}
 use lib.ListN.{length, take, get_or, length-append}
 use lib.Seq.{length-take-le, take-suc}
@@ -12,6 +17,7 @@ use Rattle.lists.specs.Lists.{total}
 use Rattle.lists.proofs.Lists.{total_append}
 use Rattle.lists.proofs.Tests.{and_left, and_right}
 use Rattle.entries.specs.declared.Entry.{Entry}
+use Rattle.outage.specs.declared.Log.{Log}
 use Rattle.outage.specs.Log.{slots, zero_entry, log_entries, valid_log}
 use Rattle.outage.proofs.LogHolding.{valid_room}
 use Rattle.year.specs.declared.Line.{Line}
@@ -27,7 +33,11 @@ use Rattle.outage_field.specs.Field.{caused_bytes, most_entry_bytes}
 use Rattle.outage_field.proofs.Laws.{caused_size, caused_most, where_text}
 use Rattle.return_format.specs.Form.{factors_value, mark_value, wpa_value, line_value, may_follow, entry_item, line_item, factors, mark, wpa, required, form}
 use Rattle.return_format.specs.Return.{log_fits, writable, return_of, valid_year}
-use Rattle.return_writing.specs.Written.{any_entry, outages_size, no_entries, no_lines}
+use Rattle.return_writing.specs.Written.{any_entry, no_entries, no_lines}
+
+-- how many bytes the outages of a log take
+abbrev pub outages_size : Log → ℕ
+outages_size log = total caused_bytes (log_entries log)
 
 -- ---- the fields of a return
 pub line_size : (l : Line) → length (field_of 6 line_value l) ≡ 13
@@ -52,6 +62,17 @@ none_size bs e = rw e
 
 pub some_size : {t : Bool} (bs : List ℕ) → t ≡ false → length (unless t bs) ≡ length bs
 some_size bs e = rw e
+
+-- an adjustment of 0 is left out, by its bits
+pub wpa_none : (z : ℤ) → SFits w64 z → of_z w64 z ≡ 0 → is_none z ≡ true
+wpa_none z f e = let back : to_z w64 (of_z w64 z) ≡ z = to_z-of_z f in let zero : z ≡ pos 0 = sym back ∙ ap (to_z w64) e in rw zero refl
+
+nothing : (z : ℤ) → nat_abs z ≡ 0 → of_z w64 z ≡ 0
+nothing (pos n) e = rw e refl
+nothing (negsuc n) e = absurd (omega arith)
+
+pub wpa_some : (z : ℤ) → (of_z w64 z ≡ 0 → ⊥) → is_none z ≡ false
+wpa_some z f = ne_eqb (nat_abs z) 0 (λ e. f (nothing z e))
 
 pub mark_in : {t : Bool} → t ≡ true → length (mark.write (cond t 1 0)) ≡ 4
 mark_in e = rw e (mark_size 1)

@@ -7,12 +7,11 @@ use native.Mathlib.Nat.{not-suc-le-zero, zero-add}
 use native.Mathlib.Omega.{arith}
 use borrow.Author.Tests.{lt-ltb, le-ltb}
 use lib.Dec.{ltb}
+use Rattle.std.specs.Prelude.{Result, Ok, Err, ⊤}
 use lib.ListN.{length, drop}
 use Rattle.lists.proofs.Tests.{and_left, and_right, and_made, not_no}
 use Rattle.refusals.specs.declared.Refusal.{Refusal}
 use Rattle.refusals.specs.declared.Refusal.TheVariants.{BrokenLog, BadYear, NoRoom}
-use Rattle.refusals.specs.declared.Answer.{Answer}
-use Rattle.refusals.specs.declared.Answer.TheVariants.{Done}
 use Rattle.refusals.specs.Refusals.{Rows, accepted, answer_number, first_applicable, refusal_number}
 use Rattle.refusals.proofs.Laws.{all_clear, done_clear, never_zero}
 use Rattle.outage.specs.Log.{valid_log}
@@ -21,17 +20,16 @@ use Rattle.year.specs.declared.Year.{Year}
 use Rattle.codec.specs.Buffers.{Wrote}
 use Rattle.codec.proofs.Buffers.{front}
 use Rattle.return_format.specs.Return.{writable, return_of, valid_year}
-use Rattle.refusals.specs.declared.Written.TheVariants as W
 use Rattle.return_writing.specs.Written.{writable_rows, WriteGives}
 
 -- ---- rows 1 and 9
 module _ (y : Year) where
-  pub log_valid : (a : Answer) → answer_number a ≡ first_applicable (check_log_rows y.log) → a ≡ Done → valid_log y.log ≡ true
-  log_valid a n e = not_no (valid_log y.log) (all_clear (check_log_rows y.log) (done_clear a (check_log_rows y.log) n e)).0
+  pub log_valid : (a : Result ⊤ Refusal) → answer_number a ≡ first_applicable (check_log_rows y.log) → a ≡ Ok tt → valid_log y.log ≡ true
+  log_valid a n e = not_no (valid_log y.log) (all_clear (check_log_rows y.log) (done_clear a (check_log_rows y.log) n tt e)).0
 
-  pub writable_valid : (a : Answer) → answer_number a ≡ first_applicable (writable_rows y) → a ≡ Done → valid_year y ≡ true
+  pub writable_valid : (a : Result ⊤ Refusal) → answer_number a ≡ first_applicable (writable_rows y) → a ≡ Ok tt → valid_year y ≡ true
   writable_valid a n e =
-      let clear = all_clear (writable_rows y) (done_clear a (writable_rows y) n e) in
+      let clear = all_clear (writable_rows y) (done_clear a (writable_rows y) n tt e) in
       and_made (not_no (valid_log y.log) clear.0) (not_no (writable y) clear.1.0)
 
 -- ---- the three answers
@@ -43,7 +41,7 @@ refused_both true false small bs o why f e = (e, refl, refl)
 refused_both false year small bs o why f e = (e, refl, refl)
 
 module _ (y : Year) (o : List ℕ) where
-  pub gives_refused : (why : Refusal) → refusal_number why ≡ first_applicable (writable_rows y) → WriteGives y o (W.Refused why) o
+  pub gives_refused : (why : Refusal) → refusal_number why ≡ first_applicable (writable_rows y) → WriteGives y o (Err why) o
   gives_refused why e = refused_both (valid_log y.log) (writable y) (ltb (length o) (length (return_of y))) (return_of y) o why refl e
 
   module _ (valid : valid_year y ≡ true) where
@@ -53,8 +51,8 @@ module _ (y : Year) (o : List ℕ) where
     rest_good : writable y ≡ true
     rest_good = and_right (valid_log y.log) (writable y) valid
 
-    pub gives_no_room : length o < length (return_of y) → WriteGives y o (W.Refused NoRoom) o
+    pub gives_no_room : length o < length (return_of y) → WriteGives y o (Err NoRoom) o
     gives_no_room h = simp (log_good, rest_good, lt-ltb (length o) (length (return_of y)) h) (refl, refl, refl)
 
-    pub gives_length : {o' : List ℕ} {n : ℕ} → length (return_of y) ≤ length o → Wrote o 0 (return_of y) o' n → WriteGives y o (W.Length n) o'
+    pub gives_length : {o' : List ℕ} {n : ℕ} → length (return_of y) ≤ length o → Wrote o 0 (return_of y) o' n → WriteGives y o (Ok n) o'
     gives_length h w = simp (log_good, rest_good, le-ltb (length o) (length (return_of y)) h) (refl, w.to ∙ zero-add (length (return_of y)), front w h)

@@ -8,21 +8,20 @@ ghost use Rattle.return_format.specs.Form.{factors, mark, wpa};
 ghost use Rattle.return_writing.specs.Written.{rest_size};
 
 use codec::{put, put_head, put_number, unsigned};
-use money::magnitude;
 use return_format::{Factors, Return};
+use year::Year;
 
 // 05: the partial-year factors, unless a return of the year leaves them out.
-pub(crate) fn put_factors(out: &mut [u8], at: usize, year: u8, pyc: u16, pyf: u16) -> usize
-    requires { at + length ((factors year).write (pyc, pyf)) ≤ length out.old }
-    ensures { Wrote out.old at ((factors year).write (pyc, pyf)) out.new result }
+pub(crate) fn put_factors(out: &mut [u8], at: usize, year: u8, f: Factors) -> usize
+    requires { at + length ((factors year).write (f.pyc, f.pyf)) ≤ length out.old }
+    ensures { Wrote out.old at ((factors year).write (f.pyc, f.pyf)) out.new result }
 {
-    let f = Factors { pyc, pyf };
     if f.are_left_out(year) {
         return at;
     }
     let p = put_head(out, at, Return::FACTORS, 4);
-    let q = put(out, p, 2, pyc as u64);
-    put(out, q, 2, pyf as u64)
+    let q = put(out, p, 2, f.pyc as u64);
+    put(out, q, 2, f.pyf as u64)
 }
 
 // 08: the mark of an Exceptional Event.
@@ -41,42 +40,30 @@ pub(crate) fn put_wpa(out: &mut [u8], at: usize, paid: i64) -> usize
     requires { at + length (wpa.write paid) ≤ length out.old }
     ensures { Wrote out.old at (wpa.write paid) out.new result }
 {
-    if magnitude(paid) == 0 {
+    if paid == 0 {
         return at;
     }
     put_number(out, at, Return::WPA, 8, unsigned(paid))
 }
 
 // What the factors, the mark and the adjustment take.
-fn size_of_rest(year: u8, pyc: u16, pyf: u16, exceptional: bool, paid: i64) -> usize
-    ensures { (result ≡ rest_size year pyc pyf exceptional paid) × (result ≤ 22) }
+fn size_of_rest(y: Year) -> usize
+    ensures { (result ≡ rest_size y) × (result ≤ 22) }
 {
-    let f = Factors { pyc, pyf };
-    let mut n: usize = 0;
-    if !f.are_left_out(year) {
-        n += 7;
-    }
-    if exceptional {
-        n += 4;
-    }
-    if magnitude(paid) != 0 {
-        n += 11;
-    }
-    n
+    let f = Factors {
+        pyc: y.pyc,
+        pyf: y.pyf,
+    };
+    let factors = if f.are_left_out(y.number) { 0 } else { 7 };
+    let mark = if y.exceptional { 4 } else { 0 };
+    let paid = if y.wpa == 0 { 0 } else { 11 };
+    factors + (mark + paid)
 }
 
-// How many bytes a return has with so many lines, and outages that take so many.
-pub(crate) fn size_of(
-    year: u8,
-    pyc: u16,
-    pyf: u16,
-    exceptional: bool,
-    paid: i64,
-    lines: usize,
-    outages: usize,
-) -> usize
-    requires { (lines ≤ line_slots) × (outages ≤ most_entry_bytes * slots) }
-    ensures { result ≡ 23 + (13 * lines + (outages + rest_size year pyc pyf exceptional paid)) }
+// How many bytes the return of a year has whose outages take so many.
+pub(crate) fn size_of(y: Year, outages: usize) -> usize
+    requires { (y.line_count ≤ line_slots) × (outages ≤ most_entry_bytes * slots) }
+    ensures { result ≡ 23 + (13 * y.line_count + (outages + rest_size y)) }
 {
-    23 + (13 * lines + (outages + size_of_rest(year, pyc, pyf, exceptional, paid)))
+    23 + (13 * y.line_count + (outages + size_of_rest(y)))
 }

@@ -14,20 +14,20 @@ ghost use Rattle.return_writing.specs.Written.{WriteGives};
 use checking::check_writable;
 use codec::put_number;
 use fields::{put_factors, put_mark, put_wpa, size_of};
-use refusals::{Answer, Refusal, Written};
-use return_format::Return;
+use refusals::Refusal;
+use return_format::{Factors, Return};
 use rows::{put_lines, put_outages, size_of_outages};
 use year::Year;
 
 // The four required fields.
-fn put_required(number: u8, pppi: u32, rate: u32, aic: u16, out: &mut [u8]) -> usize
-    requires { length (required.write (number, (pppi, (rate, aic)))) ≤ length out.old }
-    ensures { Wrote out.old 0 (required.write (number, (pppi, (rate, aic)))) out.new result }
+fn put_required(y: Year, out: &mut [u8]) -> usize
+    requires { length (required.write (y.number, (y.pppi, (y.rate, y.aic)))) ≤ length out.old }
+    ensures { Wrote out.old 0 (required.write (y.number, (y.pppi, (y.rate, y.aic)))) out.new result }
 {
-    let a = put_number(out, 0, Return::YEAR, 1, number as u64);
-    let b = put_number(out, a, Return::PPPI, 4, pppi as u64);
-    let c = put_number(out, b, Return::RATE, 4, rate as u64);
-    put_number(out, c, Return::AIC, 2, aic as u64)
+    let a = put_number(out, 0, Return::YEAR, 1, y.number as u64);
+    let b = put_number(out, a, Return::PPPI, 4, y.pppi as u64);
+    let c = put_number(out, b, Return::RATE, 4, y.rate as u64);
+    put_number(out, c, Return::AIC, 2, y.aic as u64)
 }
 
 // The bytes of a valid year at the front of a buffer with room for them.
@@ -35,37 +35,27 @@ fn put_year(y: Year, out: &mut [u8]) -> usize
     requires { (valid_year y ≡ true) × (length (return_of y) ≤ length out.old) }
     ensures { Wrote out.old 0 (return_of y) out.new result }
 {
-    let lines = y.lines;
-    let log = y.log;
-    let a = put_required(y.number, y.pppi, y.rate, y.aic, out);
-    let b = put_factors(out, a, y.number, y.pyc, y.pyf);
-    let c = put_lines(out, b, lines, y.line_count);
-    let d = put_outages(out, c, log);
+    let f = Factors {
+        pyc: y.pyc,
+        pyf: y.pyf,
+    };
+    let a = put_required(y, out);
+    let b = put_factors(out, a, y.number, f);
+    let c = put_lines(out, b, &y.lines[..y.line_count]);
+    let d = put_outages(out, c, &y.log.entries[..y.log.count]);
     let e = put_mark(out, d, y.exceptional);
     put_wpa(out, e, y.wpa)
 }
 
 // The return of a year, at the front of the buffer, and its length; or 1, 9 or 14, and not a byte written.
-pub fn write_return(y: Year, out: &mut [u8]) -> Written
+pub fn write_return(y: Year, out: &mut [u8]) -> Result<usize, Refusal>
     ensures { WriteGives y out.old result out.new }
 {
-    let answer = check_writable(y);
-    if let Answer::Refused(why) = answer {
-        return Written::Refused(why);
-    }
-    let log = y.log;
-    let outages = size_of_outages(log);
-    let size = size_of(
-        y.number,
-        y.pyc,
-        y.pyf,
-        y.exceptional,
-        y.wpa,
-        y.line_count,
-        outages,
-    );
+    check_writable(y)?;
+    let outages = size_of_outages(&y.log.entries[..y.log.count]);
+    let size = size_of(y, outages);
     if out.len() < size {
-        return Written::Refused(Refusal::NoRoom);
+        return Err(Refusal::NoRoom);
     }
-    Written::Length(put_year(y, out))
+    Ok(put_year(y, out))
 }

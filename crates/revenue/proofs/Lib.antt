@@ -2,4 +2,3 @@
 pub mod Terms
 pub mod Sums
 pub mod Only
-pub mod Answers

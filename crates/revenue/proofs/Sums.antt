@@ -2,29 +2,24 @@
 use mathlib.Core.Path.{◌≡◌, refl, sym, ap, ◌∙◌}
 use mathlib.Core.Bool.{Bool, true, false, cond}
 use mathlib.Core.List.{List, [], ◌∷◌, ◌++◌}
-use Prim.Native.Nat.{ℕ, ◌+◌, ◌*◌, ◌≤◌, ◌<◌}
+use Prim.Native.Nat.{ℕ, zero, suc, ◌+◌, ◌*◌, ◌≤◌, ◌<◌}
 use native.Mathlib.Omega.{arith}
 use native.Mathlib.Numerals.{add-one}
-use lib.IntN.{ℤ, pos, nat_abs, ◌+ℤ◌, +ℤ_idl, +ℤ_idr, +ℤ_assoc}
+use lib.IntN.{ℤ, pos, negsuc, nat_abs, ◌+ℤ◌, +ℤ_idl, +ℤ_idr, +ℤ_assoc}
 use lib.ListN.{length, take, get_or}
-use lib.Seq.{take-suc, get_or-take, length-take-le}
+use lib.Seq.{take-suc}
+use Rattle.std.proofs.lemmas.List.{take_all}
+use Rattle.std.specs.Int.{int_max}
+use borrow.Author.Tests.{eq-eqb, ne_eqb, lt-ltb, le-ltb}
 use lib.Signed.{lt_z}
-use Rattle.lists.proofs.Lists.{all_at}
+use Rattle.lists.specs.Lists.{all}
 use Rattle.money.specs.Pounds.{saturated}
 use Rattle.money.proofs.Pounds.{abs_add, saturated_small}
 use Rattle.year.specs.declared.Line.{Line}
 use Rattle.year.specs.Year.{good_line, zero_line}
-use Rattle.year.proofs.Says.{line_says, LinesSay}
-use Rattle.revenue.specs.Revenue.{pounds_of, at_least_zero, counted_as, NAR}
-use Rattle.revenue.specs.Theorems.{counted_of, summed_of}
+use Rattle.revenue.specs.Revenue.{pounds_of, at_least_zero, counted_by, NAR}
+use Rattle.revenue.specs.Theorems.{counted_as, counted_of, summed_of}
 use Rattle.revenue.proofs.Terms.{total_is}
-
--- ---- a line below the count of good lines has a small amount
-pub amount_small : (lines : List Line) (count : ℕ) → LinesSay lines count → length lines ≡ 64 → (k : ℕ) → k < count → nat_abs (get_or lines k zero_line).amount ≤ 1000000000
-amount_small lines count s len k h =
-    let n : length (take count lines) ≡ count = length-take-le count lines (omega (arith, s.few)) in
-    let g : good_line (get_or (take count lines) k zero_line) ≡ true = all_at good_line zero_line (take count lines) s.good k (omega arith) in
-    (line_says (get_or lines k zero_line) (rw (get_or-take count lines k zero_line h) at g)).amount
 
 -- ---- sums
 module _ (cmr : Bool) (rate : ℕ) where
@@ -41,10 +36,14 @@ module _ (cmr : Bool) (rate : ℕ) where
       ∙ ap (summed_of cmr rate) (take-suc lines k zero_line h)
       ∙ snoc (take k lines) (get_or lines k zero_line)
 
-  -- a line's pounds count what the line counts
-  pub counts_line : {a z : ℤ} (l : Line) → a ≡ pounds_of rate l → z ≡ counted_as cmr l.kind a → z ≡ counted_of cmr rate l
-  unfolding counted_of
-  counts_line l e f = f ∙ ap (counted_as cmr l.kind) e
+-- a line's pounds count in the sum of kind 2 or among the others, and nothing in the other of the two
+pub in_cmr : (rate : ℕ) {a : ℤ} (l : Line) → l.kind ≡ 2 → a ≡ pounds_of rate l → (a ≡ counted_of true rate l) × (pos 0 ≡ counted_of false rate l)
+unfolding counted_of counted_as
+in_cmr rate l k e = rw (eq-eqb l.kind 2 k) (e, refl)
+
+pub in_others : (rate : ℕ) {a z : ℤ} (l : Line) → (l.kind ≡ 2 → ⊥) → a ≡ pounds_of rate l → z ≡ counted_by l.kind a → (z ≡ counted_of false rate l) × (pos 0 ≡ counted_of true rate l)
+unfolding counted_of counted_as
+in_others rate l k e f = rw (ne_eqb l.kind 2 k) (f ∙ ap (counted_by l.kind) e, refl)
 
 -- the first k lines are added up, each at most 2,000,000,000
 pub record Added (cmr : Bool) (rate : ℕ) (lines : List Line) (k : ℕ) (sum : ℤ) : Type 0 where
@@ -61,6 +60,18 @@ added_next {cmr} {rate} {lines} {k} {sum} {x} {r} h few a e l w =
     let is : r ≡ sum +ℤ x = w ∙ saturated_small (sum +ℤ x) (omega arith) in
     record { is = is ∙ rw (a.is, e, summed_next cmr rate lines k h); small = rw is (omega arith) }
 
+-- where a line counts nothing the sum stays
+pub added_same : {cmr : Bool} {rate : ℕ} {lines : List Line} {k : ℕ} {sum r : ℤ} → k < length lines → Added cmr rate lines k sum → pos 0 ≡ counted_of cmr rate (get_or lines k zero_line) → r ≡ sum → Added cmr rate lines (k + 1) r
+added_same {cmr} {rate} {lines} {k} {sum} {r} h a e w =
+    record { is = w ∙ a.is ∙ sym (summed_next cmr rate lines k h ∙ rw (← e) (+ℤ_idr (summed_of cmr rate (take k lines)))); small = rw w (omega (arith, a.small)) }
+
+-- the greater of a number and 0 is the number lifted to 0
+pub lifted_is : (z : ℤ) → int_max z (pos 0) ≡ at_least_zero z
+unfolding at_least_zero
+lifted_is (pos zero) = refl
+lifted_is (pos (suc n)) = rw (lt-ltb 0 (suc n) (omega arith), le-ltb (suc n) 0 (omega arith)) refl
+lifted_is (negsuc n) = refl
+
 lifted : (t : Bool) (z : ℤ) → nat_abs (cond t (pos 0) z) ≤ nat_abs z
 lifted true z = omega arith
 lifted false z = omega arith
@@ -71,7 +82,8 @@ unfolding at_least_zero
 lifted_small z = lifted (lt_z z (pos 0)) z
 
 -- both sums, of all good lines, are the total
-pub added_total : {rate : ℕ} {a b : ℤ} (lines : List Line) (count : ℕ) → LinesSay lines count → Added false rate lines count a → Added true rate lines count b → saturated (a +ℤ at_least_zero b) ≡ NAR rate (take count lines)
-added_total {rate} {a} {b} lines count s others cmr =
-    saturated_small (a +ℤ at_least_zero b) (omega (arith, others.small, cmr.small, s.few, abs_add a (at_least_zero b), lifted_small b))
-    ∙ rw (others.is, cmr.is) (total_is rate (take count lines) s.good)
+pub added_total : {rate : ℕ} {a b : ℤ} (lines : List Line) → all good_line lines ≡ true → length lines ≤ 64 → Added false rate lines (length lines) a → Added true rate lines (length lines) b → saturated (a +ℤ at_least_zero b) ≡ NAR rate lines
+added_total {rate} {a} {b} lines good few others cmr =
+    let all_of : take (length lines) lines ≡ lines = take_all (length lines) lines (omega arith) in
+    saturated_small (a +ℤ at_least_zero b) (omega (arith, others.small, cmr.small, abs_add a (at_least_zero b), lifted_small b))
+    ∙ rw (others.is, cmr.is, all_of) (total_is rate lines good)

@@ -11,8 +11,8 @@ use Rattle.lists.proofs.Tests.{and_left, and_right}
 use Rattle.year.specs.declared.Line.{Line}
 use Rattle.year.specs.Year.{good_line}
 use Rattle.year.proofs.Says.{line_says}
-use Rattle.revenue.specs.Revenue.{pounds_of, sum_of_kind, at_least_zero, counted_as, NAR}
-use Rattle.revenue.specs.Theorems.{counted_of, summed_of}
+use Rattle.revenue.specs.Revenue.{pounds_of, sum_of_kind, at_least_zero, NAR}
+use Rattle.revenue.specs.Theorems.{counted_as, counted_of, summed_of}
 
 -- ---- sums
 -- two summands change places

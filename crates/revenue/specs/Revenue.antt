@@ -1,14 +1,13 @@
 -- Assessed revenue: rules 7.4 to 7.6 (SC5 3, 6 to 9, 11, 12; SC7 27).
-use Rattle.std.specs.Prelude.{Bool, cond, not, ◌||◌, List, [], ◌∷◌, ◌≡◌, ℕ, leb, ltb, eqb, take, ℤ, pos, neg_ℤ, nat_abs, ◌+ℤ◌, ◌-ℤ◌, ◌*ℤ◌}
+use Rattle.std.specs.Prelude.{cond, not, ◌||◌, List, [], ◌∷◌, ◌≡◌, ℕ, leb, ltb, eqb, take, Result, ℤ, pos, neg_ℤ, nat_abs, ◌+ℤ◌, ◌-ℤ◌, ◌*ℤ◌}
 use Rattle.std.specs.Int.Signed.{lt_z}
-use Rattle.refusals.specs.Refusals.{Rows, accepted, refusal_number, first_applicable}
+use Rattle.refusals.specs.Refusals.{Rows, accepted, first_applicable, answer_number, given_or}
+use Rattle.refusals.specs.declared.Refusal.{Refusal}
 use Rattle.refusals.specs.declared.Refusal.TheVariants.{BadYear, TooLarge}
 use Rattle.money.specs.Rounding.{round_z}
 use Rattle.year.specs.declared.Line.{Line}
 use Rattle.year.specs.declared.Year.{Year}
 use Rattle.year.specs.Year.{good_year}
-use Rattle.revenue.specs.declared.Revenue.{Revenue}
-use Rattle.revenue.specs.declared.Revenue.TheVariants.{Pounds, Refused}
 
 -- ---- rule 7.5: each euro line by itself (SC5 7, 9, 12)
 unfoldable pub pounds_of : ℕ → Line → ℤ
@@ -89,20 +88,11 @@ revenue_rows y = (BadYear, not (good_year y)) ∷ (TooLarge, not (leb (nat_abs (
 abbrev pub revenue_given : Year → ℤ
 revenue_given y = cond (accepted (revenue_rows y)) (assessed_revenue y) (pos 0)
 
-abbrev pub revenue_number : Revenue → ℕ
-revenue_number (Pounds z) = 0
-revenue_number (Refused why) = refusal_number why
-
-abbrev pub revenue_figure : Revenue → ℤ
-revenue_figure (Pounds z) = z
-revenue_figure (Refused why) = pos 0
-
 -- what `revenue_of` promises of its result
-abbrev pub RevenueGives : Year → Revenue → Type 0
-RevenueGives y r = (revenue_number r ≡ first_applicable (revenue_rows y)) × (revenue_figure r ≡ revenue_given y)
+abbrev pub RevenueGives : Year → Result ℤ Refusal → Type 0
+RevenueGives y r = (answer_number r ≡ first_applicable (revenue_rows y)) × (given_or (pos 0) r ≡ revenue_given y)
 
 -- ---- the same line by line
--- what a line's pounds count by its kind, in the sum of kind 2 where `cmr` holds, among the others where it does not
-unfoldable pub counted_as : Bool → ℕ → ℤ → ℤ
-counted_as cmr kind amount =
-    cond (eqb kind 2) (cond cmr amount (pos 0)) (cond cmr (pos 0) (cond (ltb kind 7 || eqb kind 10) amount (neg_ℤ amount)))
+-- what the pounds of a line count by its kind, where that is not 2
+abbrev pub counted_by : ℕ → ℤ → ℤ
+counted_by kind amount = cond (ltb kind 7 || eqb kind 10) amount (neg_ℤ amount)

@@ -1,7 +1,11 @@
 -- The lines of a year added up one after the other. No contract is stated by these definitions; theorems speak by them.
-use Rattle.std.specs.Prelude.{Bool, List, [], ◌∷◌, ℕ, ℤ, pos, ◌+ℤ◌}
+use Rattle.std.specs.Prelude.{Bool, cond, List, [], ◌∷◌, ℕ, eqb, ℤ, pos, ◌+ℤ◌}
 use Rattle.year.specs.declared.Line.{Line}
-use Rattle.revenue.specs.Revenue.{pounds_of, counted_as}
+use Rattle.revenue.specs.Revenue.{pounds_of, counted_by}
+
+-- what a line's pounds count by its kind, in the sum of kind 2 where `cmr` holds, among the others where it does not
+unfoldable pub counted_as : Bool → ℕ → ℤ → ℤ
+counted_as cmr kind amount = cond (eqb kind 2) (cond cmr amount (pos 0)) (cond cmr (pos 0) (counted_by kind amount))
 
 -- what a line counts
 unfoldable pub counted_of : Bool → ℕ → Line → ℤ

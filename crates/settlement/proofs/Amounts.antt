@@ -1,28 +1,21 @@
--- Payments: what a grown amount is, what a gap tells, and what is saturated. Assumes nothing.
-use mathlib.Core.Path.{◌≡◌, refl, sym, ap, ◌∙◌, subst}
-use mathlib.Core.Bool.{Bool, true, false, not, cond, ◌&&◌}
-use mathlib.Core.List.{[]}
+-- Payments: what a grown amount is, and what is saturated. Assumes nothing.
+use mathlib.Core.Path.{◌≡◌, refl, sym, ap, ◌∙◌}
+use mathlib.Core.Bool.{Bool, true, false, not, cond}
 use Prim.Native.Nat.{ℕ, ◌*◌, ◌/◌, ◌^◌, ◌≤◌, ◌<◌}
 use native.Mathlib.Nat.{mul-le-mul, le_of_lt}
 use native.Mathlib.Omega.{arith}
 use lib.Dec.{leb, eqb, lit<}
-use lib.IntN.{ℤ, pos, negsuc, neg_ℤ, nat_abs}
+use lib.IntN.{ℤ, pos, neg_ℤ, nat_abs}
 use lib.Signed.{lt_z}
-use borrow.Author.Tests.{lt-ltb, leb-true}
-use Rattle.lists.proofs.Tests.{and_right, not_no, not_yes}
-use Rattle.refusals.specs.declared.Refusal.{Refusal}
-use Rattle.refusals.specs.Refusals.{first_applicable, refusal_number}
-use Rattle.refusals.proofs.Laws.{all_clear, last_row}
-use Rattle.refusals.specs.declared.Refusal.TheVariants.{BadPeriod}
+use borrow.Author.Tests.{leb-true}
+use Rattle.refusals.specs.Refusals.{first_applicable}
 use Rattle.money.specs.Pounds.{saturated}
 use Rattle.money.proofs.Pounds.{saturated_small, saturated_within}
 use Rattle.money.proofs.Nearest.{debit_on, credit_on}
 use Rattle.settlement.specs.declared.medians.Period.{Period}
-use Rattle.settlement.specs.declared.medians.Gap.{Gap}
-use Rattle.settlement.specs.declared.medians.Gap.TheVariants as gap
-use Rattle.settlement.specs.Gap.{good_period, day_sum, hundredths, good_hundredths}
+use Rattle.settlement.specs.Gap.{day_sum, hundredths}
 use Rattle.settlement.specs.Growth.{growth_of, paid_of}
-use Rattle.settlement.specs.Calls.{gap_holds, gap_rows, gap_given, gap_number, gap_figure, pay_rows, pay_given, settle_rows, settle_given}
+use Rattle.settlement.specs.Calls.{gap_holds, settle_rows, settle_given}
 use Rattle.settlement.proofs.Growing.{growth_small}
 
 -- ---- an amount times an entry fits, and so does the payment
@@ -44,42 +37,6 @@ debit_is z n h e = debit_on (λ (m : ℕ). m * growth_of n / 1000000000) z h e
 pub credit_is : (z : ℤ) (n : ℕ) → nat_abs z * growth_of n / 1000000000 < 2 ^ 63 → lt_z z (pos 0) ≡ false → saturated (pos (nat_abs z * growth_of n / 1000000000)) ≡ paid_of z n
 unfolding paid_of
 credit_is z n h e = credit_on (λ (m : ℕ). m * growth_of n / 1000000000) z h e
-
--- ---- what a gap tells
-least : (z : ℤ) → good_hundredths z ≡ true → nat_abs z < 500
-least (pos n) e = let h : n ≤ 499 = leb-true n 499 (and_right (leb 0 n) (leb n 499) e) in omega arith
-least (negsuc n) e = let no : ◌≡◌ {A = ℕ} 0 1 = cc in absurd (omega arith)
-
--- what is known of two periods whose gap is n hundredths
-pub record Told (a b : Period) (n : ℕ) : Type 0 where
-  pub holds : gap_holds a b ≡ true
-  pub figure : n ≡ nat_abs (hundredths (day_sum a) (day_sum b))
-  pub few : n < 500
-
--- a gap is given where no row applies
-pub gap_told : (g : Gap) (a b : Period) (n : ℕ) → g ≡ gap.Hundredths n → gap_number g ≡ first_applicable (gap_rows a b) → gap_figure g ≡ gap_given a b → Told a b n
-gap_told g a b n e num fig = record { holds = holds; figure = figure; few = subst (λ (k : ℕ). k < 500) (sym figure) (least (hundredths (day_sum a) (day_sum b)) good) }
-  where
-    holds : gap_holds a b ≡ true
-    holds = not_no (gap_holds a b) (all_clear (gap_rows a b) (sym num ∙ ap gap_number e)).0
-
-    figure : n ≡ nat_abs (hundredths (day_sum a) (day_sum b))
-    figure = sym (ap gap_figure e) ∙ fig ∙ simp holds
-
-    good : good_hundredths (hundredths (day_sum a) (day_sum b)) ≡ true
-    good =
-        and_right (good_period b) (good_hundredths (hundredths (day_sum a) (day_sum b)))
-        (and_right (good_period a) (good_period b && good_hundredths (hundredths (day_sum a) (day_sum b))) holds)
-
--- and refused where the row does
-pub gap_refused : (g : Gap) (a b : Period) (why : Refusal) → g ≡ gap.Refused why → gap_number g ≡ first_applicable (gap_rows a b) → (refusal_number why ≡ 12) × (gap_holds a b ≡ false)
-gap_refused g a b why e num =
-    let k = last_row [] BadPeriod why (not (gap_holds a b)) tt (sym (ap gap_number e) ∙ num) in
-    (ap refusal_number k.1, not_yes (gap_holds a b) k.0)
-
--- over an allowed gap an adjustment is paid as an amount is
-pub settle_as_pay : (z : ℤ) (a b : Period) (n : ℕ) → Told a b n → (first_applicable (pay_rows z n) ≡ first_applicable (settle_rows z a b)) × (pay_given z n ≡ settle_given z a b)
-settle_as_pay z a b n t = simp (lt-ltb n 500 t.few, t.holds, ← t.figure) (refl, refl)
 
 -- ---- a saturated difference is settled as the exact one
 pub saturated_rows : (z : ℤ) (a b : Period) → first_applicable (settle_rows (saturated z) a b) ≡ first_applicable (settle_rows z a b)

@@ -1,16 +1,14 @@
 -- The gap in hundredths of a year: what the rounded quotient is. Assumes nothing.
 use mathlib.Core.Path.{◌≡◌, refl}
-use mathlib.Core.Bool.{true, false, ◌&&◌}
+use mathlib.Core.Bool.{true, false}
 use Prim.Native.Nat.{ℕ, ◌+◌, ◌-◌, ◌*◌, ◌/◌, ◌≤◌, ◌<◌}
 use native.Mathlib.Omega.{arith}
-use lib.Dec.{leb, leb-zero}
+use lib.Dec.{leb-zero}
 use lib.IntN.{ℤ, pos, negsuc, nat_abs, ◌-ℤ◌, ◌*ℤ◌}
-use borrow.Author.Tests.{leb-true, le-leb, lt-leb}
-use Rattle.lists.proofs.Tests.{and_left, and_right}
+use borrow.Author.Tests.{le-leb, lt-leb}
 use Rattle.money.proofs.Parts.{over, under, diff, abs, within_half, times_over, times_under}
 use Rattle.money.proofs.Nearest.{round_near, round_to}
-use Rattle.settlement.specs.declared.medians.Period.{Period}
-use Rattle.settlement.specs.Gap.{good_period, day_sum, hundredths, good_hundredths}
+use Rattle.settlement.specs.Gap.{hundredths, good_hundredths}
 
 -- ---- the gap is the quotient that the code works out
 module _ (earlier later : ℕ) where
@@ -50,11 +48,3 @@ allowed n h = simp (leb-zero n, le-leb n 499 h)
 
 pub too_long : (n : ℕ) → 499 < n → good_hundredths (pos n) ≡ false
 too_long n h = simp (leb-zero n, lt-leb n 499 h)
-
--- the days of a period are small
-pub sum_small : (p : Period) → good_period p ≡ true → day_sum p ≤ 146100
-sum_small p e =
-    let rest = and_right (leb 61 p.first) (leb p.first p.last && leb p.last 73050) e in
-    let order = leb-true p.first p.last (and_left (leb p.first p.last) (leb p.last 73050) rest) in
-    let end = leb-true p.last 73050 (and_right (leb p.first p.last) (leb p.last 73050) rest) in
-    omega arith

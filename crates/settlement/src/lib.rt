@@ -5,6 +5,6 @@ mod medians;
 mod paying;
 mod table;
 
-pub use medians::{Gap, Period, gap_between};
-pub use paying::{Payment, pay, reconcile, settle};
-pub use table::{Growth, growth_at};
+pub use medians::{Period, gap_between};
+pub use paying::{MOST_AMOUNT, pay, reconcile, settle};
+pub use table::{MOST_HUNDREDTHS, growth_at};

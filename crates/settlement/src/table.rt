@@ -509,17 +509,8 @@ const ENTRIES: [u64; 500] = [
     1_209_189_550,
 ];
 
-// An entry in billionths, or why there is none.
-#[derive(Clone, Copy)]
-pub enum Growth {
-    Billionths(u64),
-    Refused(Refusal),
-}
-
-impl Growth {
-    // The most hundredths of a year that the table has.
-    pub const MOST_HUNDREDTHS: u32 = 499;
-}
+// The most hundredths of a year that the table has.
+pub const MOST_HUNDREDTHS: u32 = 499;
 
 // Entry n of the table.
 pub(crate) fn entry(n: u32) -> u64
@@ -529,12 +520,12 @@ pub(crate) fn entry(n: u32) -> u64
     ENTRIES[n as usize]
 }
 
-// By how much money grows in n hundredths of a year.
-pub fn growth_at(n: u32) -> Growth
+// By how much money grows in n hundredths of a year, in billionths.
+pub fn growth_at(n: u32) -> Result<u64, Refusal>
     ensures { GrowthGives n result }
 {
-    if Growth::MOST_HUNDREDTHS < n {
-        return Growth::Refused(Refusal::BadPeriod);
+    if MOST_HUNDREDTHS < n {
+        return Err(Refusal::BadPeriod);
     }
-    Growth::Billionths(entry(n))
+    Ok(entry(n))
 }

@@ -9,20 +9,18 @@ use borrow.Author.Tests.{le-ltb, eq-eqb, ne_eqb}
 use lib.Dec.{ltb, eqb}
 use lib.ListN.{length, length-append}
 use Rattle.lists.proofs.Tests.{le_or_lt}
+use Rattle.std.specs.Prelude.{Result, Ok}
+use Rattle.refusals.specs.declared.Refusal.{Refusal}
 use Rattle.refusals.specs.declared.Refusal.TheVariants.{BadStretch}
-use Rattle.refusals.specs.declared.Answer.{Answer}
-use Rattle.refusals.specs.declared.Answer.TheVariants.{Done}
-use Rattle.refusals.specs.Refusals.{Rows, accepted, answer_number, first_applicable}
+use Rattle.refusals.specs.Refusals.{Rows, accepted, answer_number, first_applicable, given_or}
 use Rattle.refusals.specs.Answers.{One}
-use Rattle.refusals.proofs.Laws.{same_answer}
+use Rattle.refusals.proofs.Cases.{one_case, same_case}
 use Rattle.entries.specs.declared.Entry.{Entry}
 use Rattle.entries.specs.Row.{last_regime_end}
 use Rattle.text.specs.declared.Text.{Text}
 use Rattle.text.specs.Text.{decimal, digits, pushed, room, text_of}
-use Rattle.text.proofs.Laws.{digits_few, digits_most, digits_one, digits_more, pushed_text}
-use Rattle.sheet_printout.specs.declared.Printed.{Printed}
+use Rattle.text.proofs.Laws.{digits_few, digits_most, digits_one, digits_more, pushed_more, pushed_text}
 use Rattle.sheet_printout.specs.Dates.{date_of, moment_of, named_cause, outage_line, time_of, year_on}
-use Rattle.sheet_printout.specs.Printout.{nothing_printed}
 use Rattle.sheet_printout.proofs.Dates.{right_date}
 
 -- ---- there is room
@@ -67,9 +65,10 @@ module _ (t : Text) (cause : ℕ) where
   unfolding named_cause pushed
   first_cause h = rw (eq-eqb cause 1 h) refl
 
-  pub other_cause : (cause ≡ 1 → ⊥) → cause < 256 → 32 ∷ decimal cause ≡ named_cause cause
+  pub other_cause : (cause ≡ 1 → ⊥) → cause < 256 → pushed t (named_cause cause) ≡ pushed (pushed t (32 ∷ [])) (decimal cause)
   unfolding named_cause
-  other_cause h w = rw (ne_eqb cause 1 h) (ap (λ (l : List ℕ). 32 ∷ l) (same_digits 2 20 cause (omega arith) (omega arith)))
+  other_cause h w =
+      rw (ne_eqb cause 1 h) (pushed_more t 32 (digits 3 cause) ∙ ap (pushed (pushed t (32 ∷ []))) (sym (same_digits 2 20 cause (omega arith) (omega arith))))
 
 -- ---- whether a minute of an outage is past the last regime end
 abbrev pub past_end : Entry → Bool
@@ -85,33 +84,30 @@ pushed_whole bs h = pushed_text [] bs (omega arith)
 abbrev pub one_row : Bool → Rows
 one_row past = (BadStretch, past) ∷ []
 
-abbrev pub Gives : Bool → List ℕ → Printed → Type 0
+abbrev pub Gives : Bool → List ℕ → Result Text Refusal → Type 0
 Gives past bs r =
-    (answer_number r.answer ≡ first_applicable (one_row past))
-    × (r.text ≡ cond (accepted (one_row past)) (text_of bs) (text_of []))
-    × (r.text.length ≤ room)
-
-printed_made : {a b : Answer} {t u : Text} → a ≡ b → t ≡ u → ◌≡◌ {A = Printed} (record { answer = a; text = t }) (record { answer = b; text = u })
-printed_made p q = cc
+    (answer_number r ≡ first_applicable (one_row past))
+    × (given_or (text_of []) r ≡ cond (accepted (one_row past)) (text_of bs) (text_of []))
+    × ((given_or (text_of []) r).length ≤ room)
 
 module _ (past : Bool) (bs : List ℕ) where
-  pub done_given : (t : Text) → past ≡ false → length bs ≤ room → t ≡ pushed (text_of []) bs → Gives past bs (record { answer = Done; text = t })
+  pub done_given : (t : Text) → past ≡ false → length bs ≤ room → t ≡ pushed (text_of []) bs → Gives past bs (Ok t)
   done_given t e h p =
       let q : t ≡ text_of bs = p ∙ pushed_whole bs h in
       rw e (refl, q, omega (arith, ap (λ (x : Text). x.length) q))
 
-  pub refused_given : (r : Printed) → past ≡ true → r ≡ nothing_printed → Gives past bs r
-  refused_given r e p = rw (e, p) (refl, refl, omega arith)
-
-  pub same_printed : (r s : Printed) → Gives past bs r → Gives past bs s → r ≡ s
-  same_printed r s p q = printed_made (same_answer r.answer s.answer (p.0 ∙ sym q.0)) (p.1 ∙ sym q.1)
+  pub same_printed : (r s : Result Text Refusal) → Gives past bs r → Gives past bs s → r ≡ s
+  same_printed r s p q = same_case (text_of []) r s (p.0 ∙ sym q.0) (p.1 ∙ sym q.1)
 
   pub one_printed : (past ≡ false → length bs ≤ room) → One (Gives past bs)
-  one_printed h = by past refl
+  one_printed h =
+      let o = one_case (text_of []) (one_row past) (text_of bs) in
+      record {
+        result = o.result;
+        meets = (o.meets.0, o.meets.1, rw o.meets.1 (by past h));
+        alone = λ other g. o.alone other (g.0, g.1);
+      }
     where
-      given : (r : Printed) → Gives past bs r → One (Gives past bs)
-      given r m = record { result = r; meets = m; alone = λ other g. same_printed other r g m }
-
-      by : (b : Bool) → past ≡ b → One (Gives past bs)
-      by true e = given nothing_printed (refused_given nothing_printed e refl)
-      by false e = given (record { answer = Done; text = text_of bs }) (done_given (text_of bs) e (h e) (sym (pushed_whole bs (h e))))
+      by : (b : Bool) → (b ≡ false → length bs ≤ room) → (cond (accepted (one_row b)) (text_of bs) (text_of [])).length ≤ room
+      by true k = omega arith
+      by false k = k refl

@@ -3,7 +3,7 @@
 use mathlib.Core.Path.{◌≡◌, refl, sym, ap, ◌∙◌}
 use mathlib.Core.Bool.{Bool, true, false}
 use mathlib.Core.List.{List, [], ◌∷◌, ◌++◌, append_assoc}
-use mathlib.Core.Option.{Option, some, none}
+use Rattle.std.specs.Prelude.{Option, Some, None}
 use Prim.Native.Nat.{ℕ, zero, suc, ◌+◌, ◌-◌, ◌*◌, ◌≤◌, ◌<◌}
 use native.Mathlib.Nat.{le_refl}
 use native.Mathlib.Omega.{arith}
@@ -31,9 +31,9 @@ use Rattle.sheet_round_trip.proofs.Pieces.{few_pieces}
 
 -- ---- a piece has thirteen bytes, and what follows them does not matter
 module _ (w : List ℕ) (long : length w ≡ 13) where
-  not_whole : (r : List ℕ) → is_whole w ≡ false → (o : Option Piece) → (piece_item []).look (w ++ r) ≡ o → o ≡ none
-  not_whole r h none e = refl
-  not_whole r h (some a) e =
+  not_whole : (r : List ℕ) → is_whole w ≡ false → (o : Option Piece) → (piece_item []).look (w ++ r) ≡ o → o ≡ None
+  not_whole r h None e = refl
+  not_whole r h (Some a) e =
       let t = ((item_laws []).taken (w ++ r) a e).0 in
       let k : is_whole w ≡ true = ap is_whole (sym (take_at w r 13 long) ∙ ap (λ (n : ℕ). take n (w ++ r)) (sym (piece_size [] a))) ∙ t in
       absurd (let z : ◌≡◌ {A = ℕ} 0 1 = cc in omega arith)
@@ -62,9 +62,9 @@ module _ (regime_end : ℕ) (most : regime_end ≤ last_regime_end) where
     is : long ≡ moved short (rest_of short ++ x)
 
   module _ (n m : ℕ) (before : List Piece) (w x : List ℕ) (h : 13 ≤ length w)
-      (ih : (a : Piece) → (piece_item before).look w ≡ some a → piece_number regime_end before a ≡ 0
+      (ih : (a : Piece) → (piece_item before).look w ≡ Some a → piece_number regime_end before a ≡ 0
       → Same x (scan_by piece_item (piece_number regime_end) n (before ++ (a ∷ [])) (drop ((piece_item before).size a) w)) (scan_by piece_item (piece_number regime_end) m (before ++ (a ∷ [])) (drop ((piece_item before).size a) (w ++ x)))) where
-    same_ruled : (a : Piece) → (piece_item before).look w ≡ some a → (k : ℕ) → piece_number regime_end before a ≡ k
+    same_ruled : (a : Piece) → (piece_item before).look w ≡ Some a → (k : ℕ) → piece_number regime_end before a ≡ k
         → Same x (ruled w k (scan_by piece_item (piece_number regime_end) n (before ++ (a ∷ [])) (drop ((piece_item before).size a) w)))
         (ruled (w ++ x) k (scan_by piece_item (piece_number regime_end) m (before ++ (a ∷ [])) (drop ((piece_item before).size a) (w ++ x))))
     same_ruled a e zero z = ih a e z
@@ -73,8 +73,8 @@ module _ (regime_end : ℕ) (most : regime_end ≤ last_regime_end) where
     same_step : (o : Option Piece) → (piece_item before).look w ≡ o
         → Same x (more before w (λ a. ruled w (piece_number regime_end before a) (scan_by piece_item (piece_number regime_end) n (before ++ (a ∷ [])) (drop ((piece_item before).size a) w))) o)
         (more before (w ++ x) (λ a. ruled (w ++ x) (piece_number regime_end before a) (scan_by piece_item (piece_number regime_end) m (before ++ (a ∷ [])) (drop ((piece_item before).size a) (w ++ x)))) o)
-    same_step none e = record { some_left = omega arith; is = refl }
-    same_step (some a) e = same_ruled a e (piece_number regime_end before a) refl
+    same_step None e = record { some_left = omega arith; is = refl }
+    same_step (Some a) e = same_ruled a e (piece_number regime_end before a) refl
 
   same_scan : (n m : ℕ) (before : List Piece) (w x : List ℕ) → length w ≤ n → length (w ++ x) ≤ m → Kept regime_end before → 13 * (most_pieces + 1 - length before) ≤ length w
       → Same x (scan_by piece_item (piece_number regime_end) n before w) (scan_by piece_item (piece_number regime_end) m before (w ++ x))

@@ -23,6 +23,14 @@ unfolding pushed
 pushed_append t [] b = refl
 pushed_append t (x ∷ a) b = pushed_append (pushed_byte t x) a b
 
+-- so is a byte and then more
+pub pushed_more : (t : Text) (x : ℕ) (b : List ℕ) → pushed t (x ∷ b) ≡ pushed (pushed t (x ∷ [])) b
+unfolding pushed
+pushed_more t x b = refl
+
+-- by which one push after another is all of them at once
+pub ruleset pushes = (pushed_append, pushed_more)
+
 -- where there is room, a byte more is held too
 byte_pushed : (a : List ℕ) (x : ℕ) → length a < 64 → pushed_byte (text_of a) x ≡ text_of (a ++ (x ∷ []))
 byte_pushed a x h =

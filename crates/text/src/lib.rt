@@ -5,10 +5,8 @@
 ghost use Rattle.std.specs.Prelude.{◌≡◌, [], ◌∷◌};
 ghost use Rattle.text.specs.Text.{decimal, digits, pushed, signed_decimal, text_of};
 
-use money::{is_negative, magnitude};
-
 // The bytes past the length are zero in a text made here.
-#[derive(Clone, Copy)]
+#[derive(Clone, Copy, Debug, PartialEq, Eq)]
 pub struct Text {
     pub bytes: [u8; Text::ROOM],
     pub length: usize,
@@ -28,28 +26,26 @@ impl Text {
 }
 
 // A byte more at the end, where there is room.
+#[tactic(auto, unfolding(crate::specs::Text::pushed))]
 pub fn push(t: Text, b: u8) -> Text
     ensures { result ≡ pushed t (b ∷ []) }
 {
-    let at = t.length;
-    if Text::ROOM <= at {
-        return t;
-    }
     let mut next = t;
-    next.bytes[at] = b;
-    next.length = at + 1;
+    if t.length < Text::ROOM {
+        next.bytes[t.length] = b;
+        next.length += 1;
+    }
     next
 }
 
 // Bytes more at the end, as long as there is room.
+#[tactic(auto, unfolding(crate::specs::Text::pushed))]
 pub fn push_all(t: Text, s: &[u8]) -> Text
     ensures { result ≡ pushed t s.now }
 {
     let mut next = t;
-    let mut i: usize = 0;
-    while i < s.len() {
-        next = push(next, s[i]);
-        i += 1;
+    for &b in s {
+        next = push(next, b);
     }
     next
 }
@@ -61,11 +57,11 @@ fn push_digits(t: Text, k: u32, n: u64) -> Text
     if k == 0 {
         return t;
     }
+    let digit = b'0' + (n % 10) as u8;
     if n < 10 {
-        return push(t, (48 + n) as u8);
+        return push(t, digit);
     }
-    let begun = push_digits(t, k - 1, n / 10);
-    push(begun, (48 + n % 10) as u8)
+    push(push_digits(t, k - 1, n / 10), digit)
 }
 
 // A number in decimal.
@@ -79,9 +75,8 @@ pub fn push_decimal(t: Text, n: u64) -> Text
 pub fn push_signed(t: Text, z: i64) -> Text
     ensures { result ≡ pushed t (signed_decimal z) }
 {
-    if is_negative(z) {
-        let signed = push(t, 45);
-        return push_decimal(signed, magnitude(z));
+    if z < 0 {
+        return push_decimal(push(t, b'-'), z.unsigned_abs());
     }
-    push_decimal(t, magnitude(z))
+    push_decimal(t, z.unsigned_abs())
 }

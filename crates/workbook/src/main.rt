@@ -2,11 +2,9 @@
 // the regulator's workbook, a line of CSV each; or `refused ` and the number. Rules, section 20.
 #![tactic(auto)]
 
-mod input;
 mod say;
 
-use input::read_whole;
-use refusals::Answer;
+use input_end::read_whole;
 use std::io;
 use workbook_filling::fill_workbook;
 use workbook_input::WorkbookInput;
@@ -17,11 +15,8 @@ const BYTES: usize = WorkbookInput::MOST_BYTES + 1;
 fn main(rt: HostRuntime) -> io::Result<()> {
     let mut space = [0u8; BYTES];
     let n = read_whole(&mut rt.stdin(), &mut space);
-    let filled = fill_workbook(&space[..n]);
-    let answer = filled.answer;
-    let slots = filled.slots;
-    match answer {
-        Answer::Done => say::cells(&rt, slots),
-        Answer::Refused(why) => say::refused(&rt, why),
+    match fill_workbook(&space[..n]) {
+        Ok(slots) => say::cells(&rt, slots),
+        Err(why) => say::refused(&rt, why),
     }
 }

@@ -13,25 +13,13 @@ use text::Text;
 fn line(rt: &impl Print, t: Text) -> io::Result<()>
     requires { t.length ≤ room }
 {
-    let bytes = t.bytes;
-    let length = t.length;
-    rt.write_all(&bytes[..length])
-}
-
-fn cell(rt: &impl Print, index: usize, slot: Slot) -> io::Result<()> {
-    let cell = slot.cell;
-    let printed = print_cell(index, cell);
-    let text = printed.text;
-    line(rt, text)
+    rt.write_all(&t.bytes[..t.length])
 }
 
 // The cells in order, a line each.
 pub(crate) fn cells(rt: &impl Print, slots: [Slot; Slot::CELLS]) -> io::Result<()> {
-    let mut i: usize = 0;
-    while i < Slot::CELLS {
-        let slot = slots[i];
-        cell(rt, i, slot)?;
-        i += 1;
+    for (i, slot) in slots.iter().enumerate() {
+        line(rt, print_cell(i, slot.cell).unwrap_or(Text::empty()))?;
     }
     Ok(())
 }

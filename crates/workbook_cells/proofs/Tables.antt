@@ -1,7 +1,7 @@
 -- Lists by their index, and the first index that a test holds at. Assumes nothing.
 use mathlib.Core.Path.{◌≡◌, refl, sym, ap, ◌∙◌}
 use mathlib.Core.Logic.{◌⊎◌, inl, inr}
-use mathlib.Core.Bool.{Bool, true, false, cond, true≢false}
+use mathlib.Core.Bool.{Bool, true, false, not, cond, true≢false}
 use mathlib.Core.List.{List, [], ◌∷◌, ◌++◌, append-nil}
 use Prim.Native.Nat.{ℕ, zero, suc, ◌+◌, ◌-◌, ◌≤◌, ◌<◌}
 use native.Mathlib.Omega.{arith}
@@ -9,8 +9,11 @@ use native.Mathlib.Numerals.{add-one}
 use native.Mathlib.Nat.{not-suc-le-zero, le_refl, zero-add, add-zero, add-suc, suc-add}
 use borrow.Author.Tests.{lt-ltb, le-ltb}
 use lib.Dec.{ltb}
-use lib.ListN.{length, take, get_or, set, replicate, length-append, get_or-append}
-use lib.Seq.{get_or_at, append_snoc, take-suc}
+use lib.ListN.{length, get_or, set, replicate, length-append}
+use lib.Seq.{append_snoc}
+use Rattle.std.specs.Prelude.{MatchBool, HoldsAt}
+use Rattle.std.specs.List.{AllWithin, range_with_len}
+use Rattle.std.proofs.lemmas.List.FromFn.{length-range_with_len, get_or-range_with_len, length-map-range_with_len, get_or-map-range_with_len, map-range_with_len_more, fill_by_all}
 use Rattle.lists.specs.Lists.{padded}
 use Rattle.lists.proofs.Tests.{le_or_lt}
 use Rattle.lists.proofs.Padded.{padded_more}
@@ -20,38 +23,24 @@ use Rattle.workbook_cells.specs.Workbook.{tabulated, first_from}
 module _ {A : Type 0} (f : ℕ → A) where
   pub tabulated_length : (n : ℕ) → length (tabulated f n) ≡ n
   unfolding tabulated
-  tabulated_length zero = refl
-  tabulated_length (suc n) = length-append (tabulated f n) (f n ∷ []) ∙ omega (arith, tabulated_length n)
+  tabulated_length n = length-map-range_with_len f 0 n
 
   -- one more
   pub tabulated_more : (m : ℕ) (z : A) (n : ℕ) → n < m → set (padded m z (tabulated f n)) n (f n) ≡ padded m z (tabulated f (n + 1))
   unfolding tabulated
   tabulated_more m z n h =
-      padded_more m z (tabulated f n) (f n) n (tabulated_length n) h ∙ ap (λ (k : ℕ). padded m z (tabulated f k)) (sym (add-one n))
+      padded_more m z (tabulated f n) (f n) n (tabulated_length n) h
+      ∙ sym (ap (padded m z) (map-range_with_len_more f 0 n n (omega arith)))
 
   -- what stands at an index
   pub tabulated_at : (n i : ℕ) (d : A) → i < n → get_or (tabulated f n) i d ≡ f i
   unfolding tabulated
-  tabulated_at zero i d h = absurd (not-suc-le-zero h)
-  tabulated_at (suc n) i d h = by (le_or_lt n i) (tabulated_at n i d)
-    where
-      by : (n ≤ i) ⊎ (i < n) → (i < n → get_or (tabulated f n) i d ≡ f i) → get_or (tabulated f n ++ (f n ∷ [])) i d ≡ f i
-      by (inl l) before = let e : n ≡ i = omega arith in get_or_at (tabulated f n) (f n) [] d i (tabulated_length n ∙ e) ∙ ap f e
-      by (inr l) before = get_or-append (tabulated f n) (f n ∷ []) d i (omega (arith, tabulated_length n)) ∙ before l
+  tabulated_at n i d h = get_or-map-range_with_len f 0 n i i d h (omega arith)
 
-  -- another g that is the same below n
-  pub tabulated_same : (g : ℕ → A) (n : ℕ) → ((i : ℕ) → i < n → f i ≡ g i) → tabulated f n ≡ tabulated g n
+  -- a list of such elements
+  pub tabulated_is : (l : List A) (n : ℕ) (d : A) → length l ≡ n → ((i : ℕ) → i < n → get_or l i d ≡ f i) → l ≡ tabulated f n
   unfolding tabulated
-  tabulated_same g zero h = refl
-  tabulated_same g (suc n) h =
-      ap (λ (l : List A). l ++ (f n ∷ [])) (tabulated_same g n (λ i l. h i (omega arith))) ∙ ap (λ (x : A). tabulated g n ++ (x ∷ [])) (h n (omega arith))
-
--- a list by its own elements
-pub tabulated_own : {A : Type 0} (l : List A) (d : A) (n : ℕ) → n ≤ length l → tabulated (λ (i : ℕ). get_or l i d) n ≡ take n l
-unfolding tabulated
-tabulated_own l d zero h = refl
-tabulated_own l d (suc n) h =
-    ap (λ (r : List _). r ++ (get_or l n d ∷ [])) (tabulated_own l d n (omega arith)) ∙ sym (take-suc l n d (omega arith))
+  tabulated_is l n d e h = fill_by_all f l n d e h
 
 -- ---- the last three of a row
 module _ {A : Type 0} (n : ℕ) (e : A) where
@@ -170,6 +159,22 @@ module _ (bad : ℕ → Bool) where
           before : (j : ℕ) → at ≤ j → (suc at ≤ j) ⊎ (j < suc at) → (suc at ≤ j → bad j ≡ false) → bad j ≡ false
           before j l (inl m) past = past m
           before j l (inr m) past = let same : j ≡ at = omega arith in ap bad same ∙ e
+
+  -- by a test of each index in turn
+  pub each_tested : (n at : ℕ) (r : Bool)
+      → MatchBool r (AllWithin (λ i. bad i ≡ false) (range_with_len at n) 0 (length (range_with_len at n)))
+      ((k : ℕ) × (k < length (range_with_len at n)) × HoldsAt (λ i. bad i ≡ true) (range_with_len at n) k)
+      → r ≡ not (ltb (first_from bad n at) (at + n))
+  each_tested n at true h = sym (ap not (le-ltb (first_from bad n at) (at + n) (omega (arith, none_first n at none))))
+    where
+      none : (i : ℕ) → at ≤ i → i < at + n → bad i ≡ false
+      none i l g =
+          let here : at + (i - at) ≡ i = omega arith in
+          sym (ap bad (get_or-range_with_len at n (i - at) 0 (omega arith) ∙ here)) ∙ h (i - at) 0 (omega arith) (omega (arith, length-range_with_len at n))
+  each_tested n at false h =
+      let k = h.0 in
+      let less : k < n = omega (arith, h.1, length-range_with_len at n) in
+      sym (ap not (lt-ltb (first_from bad n at) (at + n) (first_below n at (at + k) (omega arith) (omega arith) (sym (ap bad (get_or-range_with_len at n k 0 less)) ∙ h.2 0))))
 
 -- two tests that agree have one first index
 pub first_same : (bad other : ℕ → Bool) (n at : ℕ) → ((i : ℕ) → at ≤ i → i < at + n → bad i ≡ other i) → first_from bad n at ≡ first_from other n at

@@ -1,14 +1,14 @@
 -- What it is for cells to come back as they were: rule 19.8. No contract is stated by these definitions; theorems speak by them.
-use Rattle.std.specs.Prelude.{Bool, false, cond, List, ◌≡◌, ℕ, ◌<◌, T, ℤ, pos, Float}
+use Rattle.std.specs.Prelude.{Bool, false, cond, List, ◌≡◌, ℕ, ◌<◌, T, ℤ, pos, Float, Result, Ok}
 use Rattle.std.specs.Float.{fin, binary64}
 use Rattle.std.specs.Float.Ieee.{fits, eq}
-use Rattle.refusals.specs.Refusals.{answer_number}
+use Rattle.refusals.specs.declared.Refusal.{Refusal}
+use Rattle.refusals.specs.declared.RefusedAt.{RefusedAt}
 use Rattle.median_period.specs.declared.MedianPeriod.{MedianPeriod}
 use Rattle.cells.specs.declared.Cell.{Cell}
 use Rattle.cells.specs.declared.Cell.TheVariants.{Empty, Number, Day}
 use Rattle.cells.specs.declared.Slot.{Slot}
 use Rattle.cells.specs.Cells.{is_within, slot_of}
-use Rattle.workbook_cells.specs.declared.exporting.Exported.{Exported}
 use Rattle.workbook_cells.specs.declared.reading.CellsRead.{CellsRead}
 use Rattle.workbook_cells.specs.Workbook.{tabulated, cell_at}
 
@@ -35,13 +35,9 @@ abbrev pub came_out_all : List Slot → List Slot
 came_out_all slots = tabulated (λ (i : ℕ). slot_of (came_out i (cell_at slots i))) 28
 
 -- what is exported reads back as itself
-pub record ReadsBack (amounts : List ℤ) (p : MedianPeriod) (r : CellsRead) : Type 0 where
-  pub number : answer_number r.answer ≡ 0
-  pub index : r.index ≡ 0
-  pub amounts_are : r.amounts ≡ amounts
-  pub period_is : r.period ≡ p
+abbrev pub ReadsBack : List ℤ → MedianPeriod → Result CellsRead RefusedAt → Type 0
+ReadsBack amounts p r = r ≡ Ok (record { amounts = amounts; period = p })
 
 -- what is read and exported gives the same cells
-pub record ComesOut (slots : List Slot) (e : Exported) : Type 0 where
-  pub number : answer_number e.answer ≡ 0
-  pub cells_are : e.slots ≡ came_out_all slots
+abbrev pub ComesOut : List Slot → Result (List Slot) Refusal → Type 0
+ComesOut slots e = e ≡ Ok (came_out_all slots)

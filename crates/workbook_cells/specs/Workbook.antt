@@ -1,18 +1,17 @@
 -- The 28 cells of a period together: rules 19.4 to 19.6.
-use Rattle.std.specs.Prelude.{Bool, false, cond, not, List, [], ◌∷◌, ◌++◌, ℕ, zero, suc, eqb, leb, ltb, get_or, ℤ, pos}
-use Rattle.std.proofs.Math.Option.{Option, some, none}
+use Rattle.std.specs.Prelude.{Bool, false, cond, not, List, [], ◌∷◌, ◌++◌, map, ℕ, zero, suc, eqb, leb, ltb, get_or, ℤ, pos, Option, Some, None, is_none}
+use Rattle.std.specs.List.{range_with_len}
 use Rattle.median_period.specs.declared.MedianPeriod.{MedianPeriod}
 use Rattle.median_period.specs.Medians.{days_agree}
 use Rattle.cells.specs.declared.Cell.{Cell}
 use Rattle.cells.specs.declared.Cell.TheVariants.{Day}
 use Rattle.cells.specs.declared.Slot.{Slot}
-use Rattle.cells.specs.Cells.{good_amount, cell_of, slot_of, empty_slot, amount_in, day_in, twice_in, is_none}
+use Rattle.cells.specs.Cells.{good_amount, cell_of, slot_of, empty_slot, amount_in, day_in, twice_in}
 
 -- ---- lists by their index
 -- f of 0 to before n
 unfoldable pub tabulated : {A : Type 0} → (ℕ → A) → ℕ → List A
-tabulated f zero = []
-tabulated f (suc n) = tabulated f n ++ (f n ∷ [])
+tabulated f n = map f (range_with_len 0 n)
 
 -- the first of n indices, from one on, that a test holds at; the one behind them where it holds at none
 unfoldable pub first_from : (ℕ → Bool) → ℕ → ℕ → ℕ
@@ -35,9 +34,9 @@ exported amounts p = tabulated (λ (i : ℕ). slot_of (cell_of i (amount_at amou
 -- ---- rule 19.6: which cells are bad
 -- the last day is there, and not before the first
 abbrev pub last_fits : Option ℕ → Option ℕ → Bool
-last_fits none last = false
-last_fits (some a) none = false
-last_fits (some a) (some b) = leb a b
+last_fits None last = false
+last_fits (Some a) None = false
+last_fits (Some a) (Some b) = leb a b
 
 abbrev pub cell_at : List Slot → ℕ → Cell
 cell_at slots i = (get_or slots i empty_slot).cell

@@ -4,5 +4,5 @@
 mod exporting;
 mod reading;
 
-pub use exporting::{Exported, export_period};
+pub use exporting::export_period;
 pub use reading::{CellsRead, read_cells};

@@ -1,3 +1,2 @@
--- What filling a workbook gives, and that it is alone.
-pub mod Answers
+-- What filling a workbook gives is alone.
 pub mod Only

@@ -1,11 +1,11 @@
 -- The cells of a period from the input of `workbook`, or the first refusal: rules 12.3, 20.2 and 20.3.
-use Rattle.std.specs.Prelude.{cond, List, ◌≡◌, ℕ, eqb, replicate}
-use Rattle.refusals.specs.Refusals.{answer_number, first_applicable}
+use Rattle.std.specs.Prelude.{cond, List, ◌≡◌, ℕ, eqb, replicate, Result}
+use Rattle.refusals.specs.declared.Refusal.{Refusal}
+use Rattle.refusals.specs.Refusals.{answer_number, given_or, first_applicable}
 use Rattle.median_period.specs.declared.MedianPeriod.{MedianPeriod}
 use Rattle.median_period.specs.Calls.{made_period}
 use Rattle.cells.specs.declared.Slot.{Slot}
 use Rattle.cells.specs.Cells.{empty_slot}
-use Rattle.workbook_cells.specs.declared.exporting.Exported.{Exported}
 use Rattle.workbook_cells.specs.Workbook.{exported}
 use Rattle.workbook_cells.specs.Calls.{export_rows}
 use Rattle.workbook_input.specs.Input.{first_day, last_day}
@@ -24,5 +24,5 @@ abbrev pub filled_slots : List ℕ → List Slot
 filled_slots bs = cond (eqb (fill_number bs) 0) (exported (input_amounts bs) (measured bs)) (replicate 28 empty_slot)
 
 -- what `fill_workbook` promises of its result
-abbrev pub FillGives : List ℕ → Exported → Type 0
-FillGives bs r = (answer_number r.answer ≡ fill_number bs) × (r.slots ≡ filled_slots bs)
+abbrev pub FillGives : List ℕ → Result (List Slot) Refusal → Type 0
+FillGives bs r = (answer_number r ≡ fill_number bs) × (given_or (replicate 28 empty_slot) r ≡ filled_slots bs)

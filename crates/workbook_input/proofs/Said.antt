@@ -4,7 +4,7 @@ use mathlib.Core.Path.{◌≡◌, refl, sym, ap, ◌∙◌}
 use mathlib.Core.Logic.{◌⊎◌, inl, inr}
 use mathlib.Core.Bool.{Bool, true, false, true≢false, ◌&&◌}
 use mathlib.Core.List.{List, [], ◌∷◌, map}
-use mathlib.Core.Option.{Option, some, none}
+use Rattle.std.specs.Prelude.{Option, Some, None}
 use Prim.Native.Nat.{ℕ, zero, suc, ◌*◌, ◌≤◌, ◌<◌}
 use native.Mathlib.Omega.{arith}
 use borrow.Author.Tests.{eqb-true, leb-true}
@@ -30,17 +30,17 @@ use Rattle.workbook_input.specs.Input.{day_bytes, next_length, next_uncut, next_
 pub record Said (bs : List ℕ) (years : List Year) : Type 0 where
   pub days : day_bytes ≤ length bs
   pub returns : List (List ℕ)
-  pub there : returns_in period_years (drop day_bytes bs) ≡ some returns
+  pub there : returns_in period_years (drop day_bytes bs) ≡ Some returns
   pub accepted : all is_return returns ≡ true
   pub are : map read_year returns ≡ years
   pub period : one_period years ≡ true
 
-pub said : (bs : List ℕ) (years : List Year) → input_years bs ≡ some years → Said bs years
+pub said : (bs : List ℕ) (years : List Year) → input_years bs ≡ Some years → Said bs years
 unfolding input_years
 said bs years e = by (leb day_bytes (length bs)) refl (returns_in period_years (drop day_bytes bs)) refl e
   where
-    each : leb day_bytes (length bs) ≡ true → (returns : List (List ℕ)) → returns_in period_years (drop day_bytes bs) ≡ some returns
-        → (t : Bool) → (all is_return returns && one_period (map read_year returns)) ≡ t → when t (some (map read_year returns)) ≡ some years → Said bs years
+    each : leb day_bytes (length bs) ≡ true → (returns : List (List ℕ)) → returns_in period_years (drop day_bytes bs) ≡ Some returns
+        → (t : Bool) → (all is_return returns && one_period (map read_year returns)) ≡ t → when t (Some (map read_year returns)) ≡ Some years → Said bs years
     each h returns o true f e =
         let are : map read_year returns ≡ years = cc in
         record {
@@ -53,17 +53,17 @@ said bs years e = by (leb day_bytes (length bs)) refl (returns_in period_years (
         }
     each h returns o false f e = absurd (let z : ◌≡◌ {A = ℕ} 0 1 = cc in omega arith)
 
-    by : (t : Bool) → leb day_bytes (length bs) ≡ t → (o : Option (List (List ℕ))) → returns_in period_years (drop day_bytes bs) ≡ o → bind_o (when t o) years_of ≡ some years → Said bs years
-    by true h (some returns) o e = each h returns o (all is_return returns && one_period (map read_year returns)) refl e
-    by true h none o e = absurd (let z : ◌≡◌ {A = ℕ} 0 1 = cc in omega arith)
+    by : (t : Bool) → leb day_bytes (length bs) ≡ t → (o : Option (List (List ℕ))) → returns_in period_years (drop day_bytes bs) ≡ o → bind_o (when t o) years_of ≡ Some years → Said bs years
+    by true h (Some returns) o e = each h returns o (all is_return returns && one_period (map read_year returns)) refl e
+    by true h None o e = absurd (let z : ◌≡◌ {A = ℕ} 0 1 = cc in omega arith)
     by false h r o e = absurd (let z : ◌≡◌ {A = ℕ} 0 1 = cc in omega arith)
 
 -- ---- what holds of the returns that are there
 abbrev Where : {A : Type 0} → (A → Type 0) → Option A → Type 0
-Where P none = Unit {0}
-Where P (some a) = P a
+Where P None = Unit {0}
+Where P (Some a) = P a
 
-where_some : {A : Type 0} (P : A → Type 0) (o : Option A) (a : A) → o ≡ some a → Where P o → P a
+where_some : {A : Type 0} (P : A → Type 0) (o : Option A) (a : A) → o ≡ Some a → Where P o → P a
 where_some P o a e w = rw e at w
 
 -- each is bytes
@@ -79,8 +79,8 @@ returns_bytes (suc n) bs b = by (next_uncut bs) (returns_in n (behind_next bs)) 
   where
     by : (t : Bool) (o : Option (List (List ℕ))) → Where AllBytes o → Where AllBytes (when t (map_o (λ rest. next_return bs ∷ rest) o))
     by false o w = tt
-    by true none w = tt
-    by true (some rs) w = (bytes_take (next_length bs) (drop 2 bs) (bytes_drop 2 bs b), w)
+    by true None w = tt
+    by true (Some rs) w = (bytes_take (next_length bs) (drop 2 bs) (bytes_drop 2 bs b), w)
 
 all_valid : (rs : List (List ℕ)) → AllBytes rs → all is_return rs ≡ true → all valid_year (map read_year rs) ≡ true
 all_valid [] b a = refl
@@ -88,7 +88,7 @@ all_valid (r ∷ rs) b a =
     and_made (read_valid r b.0 (eqb-true (first_applicable (read_rows r)) 0 (and_left (is_return r) (all is_return rs) a)))
     (all_valid rs b.1 (and_right (is_return r) (all is_return rs) a))
 
-pub years_valid : (bs : List ℕ) → Bytes bs → (years : List Year) → input_years bs ≡ some years → all valid_year years ≡ true
+pub years_valid : (bs : List ℕ) → Bytes bs → (years : List Year) → input_years bs ≡ Some years → all valid_year years ≡ true
 years_valid bs b years e =
     let s = said bs years e in
     let w = where_some AllBytes (returns_in period_years (drop day_bytes bs)) s.returns s.there (returns_bytes period_years (drop day_bytes bs) (bytes_drop day_bytes bs b)) in
@@ -112,15 +112,15 @@ returns_most (suc n) bs = by (next_uncut bs) refl (returns_in n (behind_next bs)
     by : (t : Bool) → next_uncut bs ≡ t → (o : Option (List (List ℕ))) → Where (λ (rs : List (List ℕ)). all is_return rs ≡ true → length (behind_next bs) ≤ n * 8194) o
         → Where (λ (rs : List (List ℕ)). all is_return rs ≡ true → length bs ≤ suc n * 8194) (when t (map_o (λ rest. next_return bs ∷ rest) o))
     by false u o w = tt
-    by true u none w = tt
-    by true u (some rs) w = λ a.
+    by true u None w = tt
+    by true u (Some rs) w = λ a.
         let two : 2 ≤ length bs = leb-true 2 (length bs) (and_left (leb 2 (length bs)) (leb (next_length bs) (length (drop 2 bs))) u) in
         let fits : next_length bs ≤ length (drop 2 bs) = leb-true (next_length bs) (length (drop 2 bs)) (and_right (leb 2 (length bs)) (leb (next_length bs) (length (drop 2 bs))) u) in
         let most = return_most (next_return bs) (and_left (is_return (next_return bs)) (all is_return rs) a) in
         let rest = w (and_right (is_return (next_return bs)) (all is_return rs) a) in
         omega (arith, length-take-le (next_length bs) (drop 2 bs) fits, length-drop 2 bs, length-drop (next_length bs) (drop 2 bs))
 
-pub years_most : (bs : List ℕ) (years : List Year) → input_years bs ≡ some years → length bs ≤ 40978
+pub years_most : (bs : List ℕ) (years : List Year) → input_years bs ≡ Some years → length bs ≤ 40978
 years_most bs years e =
     let s = said bs years e in
     let w = where_some (λ (rs : List (List ℕ)). all is_return rs ≡ true → length (drop day_bytes bs) ≤ period_years * 8194) (returns_in period_years (drop day_bytes bs)) s.returns s.there (returns_most period_years (drop day_bytes bs)) in

@@ -1,8 +1,8 @@
 -- What reading the input of `workbook` gives: rules 12.3, 20.2 and 20.3.
-use Rattle.std.specs.Prelude.{cond, List, [], ◌∷◌, ◌++◌, ◌≡◌, ℕ, zero, suc, eqb, ℤ, pos, replicate}
-use Rattle.std.proofs.Math.Option.{Option, some, none}
+use Rattle.std.specs.Prelude.{cond, List, [], ◌∷◌, ◌++◌, ◌≡◌, ℕ, zero, suc, eqb, ℤ, pos, replicate, Option, Some, None, Result}
+use Rattle.refusals.specs.declared.Refusal.{Refusal}
 use Rattle.refusals.specs.declared.Refusal.TheVariants.{Malformed}
-use Rattle.refusals.specs.Refusals.{refusal_number, first_applicable, answer_number}
+use Rattle.refusals.specs.Refusals.{refusal_number, first_applicable, answer_number, given_or}
 use Rattle.entries.specs.declared.Entry.{Entry}
 use Rattle.outage.specs.declared.Log.{Log}
 use Rattle.outage.specs.Log.{last_regime_end, log_entries}
@@ -39,8 +39,8 @@ years_number years = or_else (why_in (entering years)) (first_applicable (period
 
 -- before both the reading: 13 where the input is not that of rule 20.1
 abbrev pub number_of : Option (List Year) → ℕ
-number_of none = refusal_number Malformed
-number_of (some years) = years_number years
+number_of None = refusal_number Malformed
+number_of (Some years) = years_number years
 
 abbrev pub input_number : List ℕ → ℕ
 input_number bs = number_of (input_years bs)
@@ -64,8 +64,8 @@ abbrev pub no_amounts : List ℤ
 no_amounts = replicate 25 (pos 0)
 
 abbrev pub amounts_of : Option (List Year) → List ℤ
-amounts_of none = no_amounts
-amounts_of (some years) = cond (eqb (years_number years) 0) (amounts_in years) no_amounts
+amounts_of None = no_amounts
+amounts_of (Some years) = cond (eqb (years_number years) 0) (amounts_in years) no_amounts
 
 abbrev pub input_amounts : List ℕ → List ℤ
 input_amounts bs = amounts_of (input_years bs)
@@ -73,10 +73,12 @@ input_amounts bs = amounts_of (input_years bs)
 abbrev pub day_given : List ℕ → ℕ → ℕ
 day_given bs day = cond (eqb (input_number bs) 0) day 0
 
+abbrev pub input_given : List ℕ → WorkbookInput
+input_given bs = record { amounts = input_amounts bs; first = day_given bs (first_day bs); last = day_given bs (last_day bs) }
+
+abbrev pub no_input : WorkbookInput
+no_input = record { amounts = no_amounts; first = 0; last = 0 }
+
 -- what `read_workbook` promises of its result
-abbrev pub ReadWorkbookGives : List ℕ → WorkbookInput → Type 0
-ReadWorkbookGives bs r =
-    (answer_number r.answer ≡ input_number bs)
-    × (r.amounts ≡ input_amounts bs)
-    × (r.first ≡ day_given bs (first_day bs))
-    × (r.last ≡ day_given bs (last_day bs))
+abbrev pub ReadWorkbookGives : List ℕ → Result WorkbookInput Refusal → Type 0
+ReadWorkbookGives bs r = (answer_number r ≡ input_number bs) × (given_or no_input r ≡ input_given bs)

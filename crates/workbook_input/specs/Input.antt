@@ -1,6 +1,6 @@
 -- The input of `workbook`: the two days of the measurement period, and five returns, each behind its length. Rule 20.1.
 use Rattle.std.specs.Prelude.{Bool, ◌&&◌, List, [], ◌∷◌, map, ℕ, zero, suc, leb, length, take, drop}
-use Rattle.std.proofs.Math.Option.{Option, some, none}
+use Rattle.std.specs.Prelude.{Option, Some, None}
 use Rattle.lists.specs.Lists.{all}
 use Rattle.refusals.specs.Refusals.{accepted}
 use Rattle.year.specs.declared.Year.{Year}
@@ -36,8 +36,8 @@ behind_next bs = drop (next_length bs) (drop 2 bs)
 
 -- so many of them, and nothing behind the last
 unfoldable pub returns_in : ℕ → List ℕ → Option (List (List ℕ))
-returns_in zero [] = some []
-returns_in zero (b ∷ bs) = none
+returns_in zero [] = Some []
+returns_in zero (b ∷ bs) = None
 returns_in (suc n) bs = when (next_uncut bs) (map_o (λ rest. next_return bs ∷ rest) (returns_in n (behind_next bs)))
 
 -- behind the two days, which are not cut either
@@ -49,7 +49,7 @@ abbrev pub is_return : List ℕ → Bool
 is_return bs = accepted (read_rows bs)
 
 abbrev pub years_of : List (List ℕ) → Option (List Year)
-years_of returns = when (all is_return returns && one_period (map read_year returns)) (some (map read_year returns))
+years_of returns = when (all is_return returns && one_period (map read_year returns)) (Some (map read_year returns))
 
 unfoldable pub input_years : List ℕ → Option (List Year)
 input_years bs = bind_o (input_returns bs) years_of

@@ -5,26 +5,22 @@ mod amounts;
 mod logging;
 mod returns;
 
-ghost use Rattle.std.specs.Prelude.{◌≡◌};
 ghost use Rattle.workbook_input.specs.Calls.{ReadWorkbookGives};
-ghost use Rattle.workbook_input.specs.Steps.{input_refused};
 
 use amounts::amounts_of;
 use assessment::assess_period;
-use balances::Assessment;
 use codec::number;
 use levels::Book;
 use logging::running_log;
-use refusals::{Answer, Refusal};
+use refusals::Refusal;
 use returns::read_years;
 
-// The amounts of cells 0 to 24 in their order, and the two days as they were read; zeros beside a refusal.
-#[derive(Clone, Copy)]
+// The amounts of cells 0 to 24 in their order, and the two days as they were read.
+#[derive(Clone, Copy, Debug, PartialEq, Eq)]
 pub struct WorkbookInput {
     pub amounts: [i64; WorkbookInput::AMOUNTS],
     pub first: u32,
     pub last: u32,
-    pub answer: Answer,
 }
 
 impl WorkbookInput {
@@ -34,46 +30,20 @@ impl WorkbookInput {
     pub const MOST_BYTES: usize = 40_978;
 }
 
-// No amount, and why.
-fn refused(why: Refusal) -> WorkbookInput
-    ensures { result ≡ input_refused why }
-{
-    WorkbookInput {
-        amounts: [0; WorkbookInput::AMOUNTS],
-        first: 0,
-        last: 0,
-        answer: Answer::Refused(why),
-    }
-}
-
 // The amounts of five returns of one period and the two days before them; or why there are none.
-pub fn read_workbook(s: &[u8]) -> WorkbookInput
+pub fn read_workbook(s: &[u8]) -> Result<WorkbookInput, Refusal>
     ensures { ReadWorkbookGives s.now result }
 {
-    let read = read_years(s);
-    if !read.good {
-        return refused(Refusal::Malformed);
-    }
-    let years = read.years;
-    let made = running_log(years);
-    let answer = made.answer;
-    if let Answer::Refused(why) = answer {
-        return refused(why);
-    }
-    let log = made.log;
+    let years = read_years(s).ok_or(Refusal::Malformed)?;
+    let log = running_log(years)?;
     let book = Book::published();
-    match assess_period(book, years, log) {
-        Assessment::Found(figures) => {
-            let amounts = amounts_of(book, years, log, figures);
-            let first = number(s, 0, 4) as u32;
-            let last = number(s, 4, 4) as u32;
-            WorkbookInput {
-                amounts,
-                first,
-                last,
-                answer: Answer::Done,
-            }
-        }
-        Assessment::Refused(why) => refused(why),
-    }
+    let figures = assess_period(book, years, log)?;
+    let amounts = amounts_of(book, years, log, figures);
+    let first = number(s, 0, 4) as u32;
+    let last = number(s, 4, 4) as u32;
+    Ok(WorkbookInput {
+        amounts,
+        first,
+        last,
+    })
 }

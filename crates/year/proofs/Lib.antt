@@ -1,4 +1,4 @@
--- What a year in range says, laws on the slots of its lines, and that its check has one answer.
+-- What a year in range says, a test of all lines in std's word, and that its check has one answer.
 pub mod Says
-pub mod Slots
+pub mod Listed
 pub mod Only

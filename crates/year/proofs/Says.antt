@@ -8,11 +8,10 @@ use lib.IntN.{nat_abs}
 use lib.ListN.{take, drop}
 use lib.Signed.{non_neg}
 use borrow.Author.Tests.{leb-true}
+use Rattle.std.specs.Prelude.{Result, Ok, Err, ⊤}
 use Rattle.lists.specs.Lists.{all}
 use Rattle.lists.proofs.Tests.{and_left, and_right, not_no, not_yes}
 use Rattle.refusals.specs.declared.Refusal.{Refusal}
-use Rattle.refusals.specs.declared.Answer.{Answer}
-use Rattle.refusals.specs.declared.Answer.TheVariants.{Done, Refused}
 use Rattle.refusals.specs.Refusals.{answer_number}
 use Rattle.refusals.proofs.Laws.{all_clear, done_clear, last_row}
 use Rattle.refusals.specs.declared.Refusal.TheVariants.{BadYear}
@@ -64,9 +63,6 @@ lines_say lines count g =
 pub pppi_most : (pppi : ℕ) → good_pppi pppi ≡ true → pppi ≤ 50000
 pppi_most pppi g = leb-true pppi 50000 (and_right (leb 5000 pppi) (leb pppi 50000) g)
 
-pub rate_most : (rate : ℕ) → good_rate rate ≡ true → rate ≤ 200000
-rate_most rate g = leb-true rate 200000 (and_right (leb 1 rate) (leb rate 200000) g)
-
 -- ---- a year, all of it but its log
 pub record YearSays (y : Year) : Type 0 where
   pub number : good_year_number y.number ≡ true
@@ -112,9 +108,9 @@ year_says y g =
     }
 
 -- ---- the check's answer
-module _ (y : Year) (a : Answer) (g : CheckYearGives y a) where
-  pub checked_good : a ≡ Done → good_year y ≡ true
-  checked_good e = not_no (good_year y) (all_clear (check_year_rows y) (done_clear a (check_year_rows y) g e)).0
+module _ (y : Year) (a : Result ⊤ Refusal) (g : CheckYearGives y a) where
+  pub checked_good : a ≡ Ok tt → good_year y ≡ true
+  checked_good e = not_no (good_year y) (all_clear (check_year_rows y) (done_clear a (check_year_rows y) g tt e)).0
 
-  pub checked_bad : (why : Refusal) → a ≡ Refused why → good_year y ≡ false
+  pub checked_bad : (why : Refusal) → a ≡ Err why → good_year y ≡ false
   checked_bad why e = not_yes (good_year y) (last_row [] BadYear why (not (good_year y)) tt (sym (ap answer_number e) ∙ g)).0

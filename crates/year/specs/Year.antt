@@ -1,10 +1,10 @@
 -- A year, its ranges and its lines: rules 7.1 to 7.4.
-use Rattle.std.specs.Prelude.{Bool, false, not, ◌&&◌, ◌||◌, List, [], ◌∷◌, ◌≡◌, ℕ, leb, eqb, take, drop, replicate, ℤ, pos, nat_abs}
+use Rattle.std.specs.Prelude.{Bool, false, not, ◌&&◌, ◌||◌, List, [], ◌∷◌, ◌≡◌, ℕ, leb, eqb, take, drop, replicate, ℤ, pos, nat_abs, Result, ⊤}
 use Rattle.std.specs.Int.Signed.{non_neg}
 use Rattle.lists.specs.Lists.{all}
 use Rattle.refusals.specs.Refusals.{Rows, first_applicable, answer_number}
 use Rattle.refusals.specs.declared.Refusal.TheVariants.{BadYear}
-use Rattle.refusals.specs.declared.Answer.{Answer}
+use Rattle.refusals.specs.declared.Refusal.{Refusal}
 use Rattle.calendar.specs.Years.{good_year_number}
 use Rattle.outage.specs.Log.{log_holding, last_regime_end}
 use Rattle.year.specs.declared.Line.{Line}
@@ -79,5 +79,5 @@ abbrev pub check_year_rows : Year → Rows
 check_year_rows y = (BadYear, not (good_year y)) ∷ []
 
 -- what `check_year` promises of its result
-abbrev pub CheckYearGives : Year → Answer → Type 0
+abbrev pub CheckYearGives : Year → Result ⊤ Refusal → Type 0
 CheckYearGives y r = answer_number r ≡ first_applicable (check_year_rows y)

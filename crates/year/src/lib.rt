@@ -8,10 +8,10 @@ ghost use Rattle.std.specs.Prelude.{◌≡◌};
 ghost use Rattle.year.specs.Year.{fresh_year, zero_line};
 
 pub use checking::{check_year, good_line};
-use outage::Log;
+use outage::{Entry, Log};
 
 // A revenue line: its kind, its currency (0 pound, 1 euro) and an amount in that currency.
-#[derive(Clone, Copy)]
+#[derive(Clone, Copy, Debug, PartialEq, Eq)]
 pub struct Line {
     pub kind: u8,
     pub currency: u8,
@@ -49,7 +49,7 @@ impl Line {
 }
 
 // Factors and the index are in ten-thousandths, the rate is pounds per euro in hundred-thousandths.
-#[derive(Clone, Copy)]
+#[derive(Clone, Copy, Debug, PartialEq, Eq)]
 pub struct Year {
     pub number: u8,
     pub pppi: u32,
@@ -93,8 +93,6 @@ impl Year {
     pub fn fresh() -> Year
         ensures { result ≡ fresh_year }
     {
-        let made = Log::empty(Log::LAST_REGIME_END);
-        let log = made.log;
         Year {
             number: 1,
             pppi: 10_000,
@@ -106,7 +104,7 @@ impl Year {
             line_count: 0,
             exceptional: false,
             wpa: 0,
-            log,
+            log: Log::made([Entry::zero(); Log::SLOTS], 0, Log::LAST_REGIME_END),
         }
     }
 }

@@ -1,7 +1,6 @@
--- `cell_printout::print_cell` meets its contract: past the last cell there is no line.
+-- Past the last cell there is no line.
 use Rattle.cell_printout.proofs.Lines.{bad_given, none_past}
 use Rattle.cell_printout.proofs.print_cell.Goals as goal
 
 pub returns-then-index-ge-CELLS : goal.returns-then-index-ge-CELLS
-returns-then-index-ge-CELLS c =
-    bad_given c.args.index c.args.cell c.refused.result (none_past c.args.index c.args.cell c.if-index-ge-CELLS.true) c.refused.ensures
+returns-then-index-ge-CELLS c = bad_given c.args.index c.args.cell (none_past c.args.index c.args.cell c.if-index-ge-CELLS.true)

@@ -1,10 +1,7 @@
--- Every turn: v is what the first i bytes spell, and is below 256 ^ i.
-use Rattle.std.proofs.Common.{◌≡◌, ◌<◌, ◌≤◌, ◌-◌, ◌^◌, take, drop}
+-- Every turn: v is what the first bytes spell, and is below that power of 256.
+use Rattle.std.proofs.Common.{◌≡◌, ◌<◌, ◌^◌, take}
 use Rattle.codec.specs.Numbers.{spelled}
 use Rattle.codec.proofs.spell.Given as goal
 
-abbrev pub invariant-loop-i : goal.invariant-loop-i
-invariant-loop-i l = (l.i ≤ l.n) × (l.v < 256 ^ l.i) × (l.v ≡ spelled 0 (take l.i (drop l.at l.s)))
-
-abbrev pub decreases-loop-i : goal.decreases-loop-i
-decreases-loop-i l = l.n - l.i
+abbrev pub invariant-loop-b : goal.invariant-loop-b
+invariant-loop-b l = (l.v < 256 ^ l.b-index) × (l.v ≡ spelled 0 (take l.b-index l.bytes))

@@ -1,6 +1,5 @@
 -- What is printed is the refusal of the reading, or else the year that was read, which is a valid one.
 use Rattle.std.proofs.Common.{[], ap, sym, ◌∙◌, arith}
-use Rattle.refusals.specs.Refusals.{answer_number}
 use Rattle.text.specs.Text.{pushed, text_of}
 use Rattle.year.specs.declared.Year.{Year}
 use Rattle.return_format.specs.Return.{valid_year}
@@ -9,17 +8,16 @@ use Rattle.return_printout.specs.Printout.{printed_year}
 use Rattle.return_printout.proofs.YearLines.{refused_given, year_given}
 use Rattle.return_printout.proofs.print_return.Goals as goal
 
-pub returns-in-Refused : goal.returns-in-Refused
-returns-in-Refused c =
-    refused_given c.args.s.now c.in-Refused.why (sym (ap answer_number c.in-Refused.is) ∙ c.read_return-read.ensures.0) c.refusal.ensures
+pub returns-in-Err : goal.returns-in-Err
+returns-in-Err c = refused_given c.args.s.now c.in-Err.refused.why c.in-Err.ensures.0 c.refusal.ensures
 
 pub print_year-requires : goal.print_year-requires
 print_year-requires c =
-    let read = c.read_return-read.ensures in
-    ap valid_year read.2 ∙ read_valid c.args.s.now (λ i. omega (arith, c.type_inv.s i)) (sym read.0 ∙ ap answer_number c.in_default.is)
+    let read = c.in-Ok.ensures in
+    ap valid_year read.2 ∙ read_valid c.args.s.now (λ i. omega (arith, c.type_inv.s i)) (sym read.0)
 
-pub returns : goal.returns
-returns c =
-    let read = c.read_return-read.ensures in
-    year_given c.args.s.now (λ i. omega (arith, c.type_inv.s i)) (sym read.0 ∙ ap answer_number c.in_default.is)
+pub returns-in-Ok : goal.returns-in-Ok
+returns-in-Ok c =
+    let read = c.in-Ok.ensures in
+    year_given c.args.s.now (λ i. omega (arith, c.type_inv.s i)) (sym read.0)
     (c.print_year.ensures ∙ ap (λ (y : Year). pushed (text_of []) (printed_year y)) read.2)

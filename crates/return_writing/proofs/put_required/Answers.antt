@@ -5,6 +5,6 @@ use Rattle.return_writing.proofs.put_required.Goals as goal
 
 pub returns : goal.returns
 returns c =
-    let a = c.args in
-    required_laid a.number a.pppi a.rate a.aic (omega (arith, c.requires))
+    let y = c.args.y in
+    required_laid y.number y.pppi y.rate y.aic (omega (arith, c.requires))
     c.put_number-a.ensures c.put_number-b.ensures c.put_number-c.ensures c.put_number.ensures

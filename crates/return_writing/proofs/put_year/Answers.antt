@@ -3,7 +3,7 @@ use Rattle.std.proofs.Common.{◌≡◌, to_z, of_z, rules}
 use Rattle.std.specs.Int.{w64}
 use Rattle.money.proofs.Pounds.{wire}
 use Rattle.return_writing.proofs.Laying.{year_laid, required_room, factors_room, lines_room, log_room, mark_room, wpa_room}
-use Rattle.return_writing.proofs.Sizes.{few_lines, few_outages}
+use Rattle.return_writing.proofs.Sizes.{few_outages}
 use Rattle.return_writing.proofs.put_year.Goals as goal
 
 pub put_required-a-requires : goal.put_required-a-requires
@@ -14,13 +14,14 @@ put_factors-b-requires c = factors_room c.args.y c.args.out.now c.requires.1 c.p
 
 pub put_lines-c-requires : goal.put_lines-c-requires
 put_lines-c-requires c =
-    let y = c.args.y in
-    (lines_room y c.args.out.now c.requires.1 c.put_required-a.ensures c.put_factors-b.ensures, few_lines y c.requires.0)
+    lines_room c.args.y c.args.out.now c.requires.1 c.put_required-a.ensures c.put_factors-b.ensures
+
+pub shared_ref_as_front-put_outages : goal.shared_ref_as_front-put_outages
+shared_ref_as_front-put_outages c = few_outages c.args.y c.requires.0
 
 pub put_outages-d-requires : goal.put_outages-d-requires
 put_outages-d-requires c =
-    let y = c.args.y in
-    (log_room y c.args.out.now c.requires.1 c.put_required-a.ensures c.put_factors-b.ensures c.put_lines-c.ensures, few_outages y c.requires.0)
+    log_room c.args.y c.args.out.now c.requires.1 c.put_required-a.ensures c.put_factors-b.ensures c.put_lines-c.ensures
 
 pub put_mark-e-requires : goal.put_mark-e-requires
 put_mark-e-requires c =

@@ -1,16 +1,14 @@
--- A year that its check refuses is refused for the same, and one in range where its total is too large.
-use Rattle.std.proofs.Common.{◌≡◌, ◌∙◌, sym, to_z, of_z, w64}
-use Rattle.money.proofs.Pounds.{wire}
-use Rattle.year.proofs.Says.{checked_good}
-use Rattle.revenue.specs.Revenue.{assessed_revenue}
-use Rattle.revenue.proofs.Answers.{gives_bad, gives_large}
+-- A year that its check refuses is refused for the same.
+use Rattle.std.proofs.Common.{rules, ◌≡◌, Err, false, pos}
+use Rattle.year.specs.Year.{good_year}
+use Rattle.year.proofs.Says.{checked_bad}
+use Rattle.refusals.proofs.Cases.{refused_meets}
+use Rattle.revenue.specs.Revenue.{assessed_revenue, revenue_rows}
 use Rattle.revenue.proofs.revenue_of.Goals as goal
 
-pub returns-in-Refused : goal.returns-in-Refused
-returns-in-Refused c = gives_bad c.args.y c.in-Refused.why c.in-Refused.ensures
-
-pub returns-then-not-within : goal.returns-then-not-within
-returns-then-not-within c =
-    let good = checked_good c.args.y c.check_year-answer.result c.check_year-answer.ensures c.in_default.is in
-    let sum : to_z w64 (of_z w64 c.total-sum.result) ≡ assessed_revenue c.args.y = wire c.total-sum.result c.total-sum.type_inv ∙ c.total-sum.ensures in
-    gives_large c.args.y good (sym (rw sum at c.within.ensures) ∙ c.if-not-within.true)
+pub returns-in_err-check_year : goal.returns-in_err-check_year
+returns-in_err-check_year c =
+    let why = c.in_err-check_year.field-0.0 in
+    let e : c.from_residual.result ≡ Err why = search rules in
+    let bad : good_year c.args.y ≡ false = checked_bad c.args.y c.check_year.result c.check_year.ensures why c.in_err-check_year.was in
+    rw e (refused_meets (pos 0) (revenue_rows c.args.y) (assessed_revenue c.args.y) why (rw bad (rw bad at c.in_err-check_year.ensures)))

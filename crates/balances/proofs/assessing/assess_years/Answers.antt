@@ -1,7 +1,7 @@
 -- `balances::assessing::assess_years`: what four balances give is what the call gives.
 use Rattle.std.proofs.Common.{◌≡◌, ℕ, List, true, sym, ◌∙◌, subst}
 use lib.IntN.{ℤ}
-use Rattle.balances.specs.declared.carrying.Balance.{Balance}
+use Rattle.std.specs.Prelude.{Option}
 use Rattle.balances.specs.Balance.{good_amounts}
 use Rattle.balances.specs.Steps.{balance_of, Bounded}
 use Rattle.balances.specs.Assessment.{assessable}
@@ -9,7 +9,7 @@ use Rattle.balances.proofs.Ranges.{CountSays, yearly_says}
 use Rattle.balances.proofs.Answers.{balance_bounded, found_is}
 use Rattle.balances.proofs.assessing.assess_years.Goals as goal
 
-bounded : (index : List ℕ) (amounts : List ℤ) (n : ℕ) (b : Balance) → CountSays n → good_amounts index amounts n ≡ true → b ≡ balance_of index amounts n → Bounded b
+bounded : (index : List ℕ) (amounts : List ℤ) (n : ℕ) (b : Option ℤ) → CountSays n → good_amounts index amounts n ≡ true → b ≡ balance_of index amounts n → Bounded b
 bounded index amounts n b k g e = subst Bounded (sym e) (balance_bounded index amounts n k.some g)
 
 pub found-requires : goal.found-requires

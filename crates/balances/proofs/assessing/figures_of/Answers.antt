@@ -20,8 +20,8 @@ returns c =
     c.minus.ensures
     ∙ ap saturated (same_less (wire held c.held_between-held.type_inv) (to_z-of_z c.ranges.revenue))
     ∙ saturated_small (held -ℤ a.revenue) (omega (arith, abs_sub held a.revenue)) in
-    let netted_is : c.minus-adjustment.result ≡ less -ℤ a.paid =
-    c.minus-adjustment.ensures
+    let netted_is : c.minus-2.result ≡ less -ℤ a.paid =
+    c.minus-2.ensures
     ∙ ap saturated (same_less (wire less c.minus.type_inv) (to_z-of_z c.ranges.paid))
     ∙ saturated_small (less -ℤ a.paid) (rw less_is (omega (arith, abs_sub held a.revenue, abs_sub (held -ℤ a.revenue) a.paid))) in
     rw (
@@ -30,7 +30,7 @@ returns c =
       to_z-of_z c.ranges.floor,
       to_z-of_z c.ranges.paid,
       wire held c.held_between-held.type_inv,
-      wire c.minus-adjustment.result c.minus-adjustment.type_inv,
+      wire c.minus-2.result c.minus-2.type_inv,
       netted_is,
       less_is,
       held_is,

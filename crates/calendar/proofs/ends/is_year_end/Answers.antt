@@ -5,7 +5,7 @@ use Rattle.calendar.proofs.Laws.{year_one, ends_next, year_ends, last_ends}
 use Rattle.calendar.proofs.ends.is_year_end.Goals as goal
 
 pub loop-passing-init : goal.loop-passing-init
-loop-passing-init c = (omega arith, omega arith, sym year_one, refl)
+loop-passing-init c = (sym year_one, refl)
 
 pub returns-then-minute-start : goal.returns-then-minute-start
 returns-then-minute-start c =
@@ -18,5 +18,5 @@ pub returns : goal.returns
 returns c =
     let a = c.args in
     let l = c.loop-passing in
-    let n : l.passing - 1 ≡ 24 = omega arith in
-    sym (last_ends a.regime_end a.minute (sym (ap (one_ends_at a.regime_end a.minute) n) ∙ l.invariant.3))
+    let n : 24 ≡ l.passing - 1 = omega arith in
+    sym (last_ends a.regime_end a.minute (ap (one_ends_at a.regime_end a.minute) n ∙ l.invariant.1))

@@ -1,29 +1,40 @@
--- A book whose entries and first sum are in range is as its second sum.
-use Rattle.std.proofs.Common.{rules, true, false, ◌≡◌, ◌∙◌, sym}
-use borrow.Author.Tests.{le-leb}
-use Rattle.lists.proofs.Tests.{facts}
-use Rattle.levels.specs.Book.{good_sum, good_book}
+-- A book is in range where its numbers and both of its sums are.
+use Rattle.std.proofs.Common.{rules, true, false, Bool, ◌&&◌, ◌≡◌, ◌∙◌, sym}
+use Rattle.levels.specs.Book.{good_book, good_numbers, good_sum}
 use Rattle.levels.proofs.measuring.good_book.Goals as goal
+use Rattle.levels.proofs.measuring.good_book.Goals.{then-good_numbers, else-good_numbers}
 
-pub returns : goal.returns
-unfolding good_book
-returns c =
-    let b = c.args.b in
-    let first : good_sum b.pcl b.pcac b.orac ≡ true = search (rules, sym c.good_sum.ensures ∙ c.if-not-good_sum.false) in
-    let second : c.good_sum-2.result ≡ good_sum b.pfl b.pcaf b.oraf = search rules in
-    simp (
-      le-leb _ _ c.if-b-lt-FIRST_REGIME_END.false,
-      le-leb _ _ c.if-b-gt-LAST_REGIME_END.false,
-      le-leb _ _ c.if-b-gt-MOST_TARGET.false,
-      le-leb _ _ c.if-b-gt-MOST_TARGET-2.false,
-      le-leb _ _ c.if-b-gt-MOST_FACTOR.false,
-      first,
-    )
-    second
+last_of : (a b c : Bool) {r : Bool} → a ≡ true → b ≡ true → r ≡ c → r ≡ (a && (b && c))
+last_of a b c f g e = rw (f, g) e
 
-pub returns-then-not-good_sum : goal.returns-then-not-good_sum
+second_of : (a b c : Bool) {r : Bool} → a ≡ true → b ≡ false → r ≡ false → r ≡ (a && (b && c))
+second_of a b c f g e = rw (f, g) e
+
+first_of : (a b : Bool) {r : Bool} → a ≡ false → r ≡ false → r ≡ (a && b)
+first_of a b f e = rw f e
+
+pub returns-then-good_sum : goal.returns-then-good_sum
 unfolding good_book
-returns-then-not-good_sum c =
+returns-then-good_sum c =
     let b = c.args.b in
-    let first : good_sum b.pcl b.pcac b.orac ≡ false = search (rules, sym c.good_sum.ensures ∙ c.if-not-good_sum.true) in
-    search (facts, first)
+    let cap = good_sum b.pcl b.pcac b.orac in
+    let floor : c.good_sum-then-good_sum.result ≡ good_sum b.pfl b.pcaf b.oraf = search rules in
+    elim c.if-good_numbers.branch [
+      | then-good_numbers w ↦
+          let first : w.good_sum.result ≡ cap = search rules in
+          last_of (good_numbers b) cap (good_sum b.pfl b.pcaf b.oraf) (sym c.good_numbers.ensures ∙ w.if-good_numbers.true) (sym first ∙ sym w.value-is ∙ c.if-good_sum.true) floor
+      | else-good_numbers w ↦ cc
+    ]
+
+pub returns-else-good_sum : goal.returns-else-good_sum
+unfolding good_book
+returns-else-good_sum c =
+    let b = c.args.b in
+    let cap = good_sum b.pcl b.pcac b.orac in
+    elim c.if-good_numbers.branch [
+      | then-good_numbers w ↦
+          let first : w.good_sum.result ≡ cap = search rules in
+          second_of (good_numbers b) cap (good_sum b.pfl b.pcaf b.oraf) (sym c.good_numbers.ensures ∙ w.if-good_numbers.true) (sym first ∙ sym w.value-is ∙ c.if-good_sum.false) c.if-good_sum.false
+      | else-good_numbers w ↦
+          first_of (good_numbers b) (cap && good_sum b.pfl b.pcaf b.oraf) (sym c.good_numbers.ensures ∙ w.if-good_numbers.false) c.if-good_sum.false
+    ]

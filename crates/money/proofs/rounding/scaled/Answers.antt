@@ -11,6 +11,7 @@ use Rattle.money.specs.Pounds.{saturated}
 use Rattle.money.specs.Rounding.{rounded_of, round_div, on_magnitude, scaled_of}
 use Rattle.money.proofs.Pounds.{wire}
 use Rattle.money.proofs.Nearest.{round_le_self, round_times, debit_on, credit_on, rounded_is, scaled_is, scaled_far, scaled_wide, scaled_over_none}
+use Rattle.money.proofs.rounding.scaled.Goals.{then-not-within-via-then-not-within, then-not-within-via-else-not-within+then-by-gt900000000, then-not-within-via-else-not-within+else-by-gt900000000+then-over-eq0}
 use Rattle.money.proofs.rounding.scaled.Goals as goal
 
 -- in reach: m is what the product k times the factor, by its quotient and rest, rounds to
@@ -54,14 +55,13 @@ to_the_good z by over k m r e =
 
 pub returns-then-not-within : goal.returns-then-not-within
 returns-then-not-within c =
-    let test = rw (to_z-of_z c.ranges.z) at c.within.ensures in
-    sym (scaled_far c.args.z c.args.by c.args.over (leb-false _ _ (sym test ∙ c.if-not-within.true)))
-
-pub returns-then-by-gt900000000 : goal.returns-then-by-gt900000000
-returns-then-by-gt900000000 c = sym (scaled_wide c.args.z c.args.by c.args.over c.if-by-gt900000000.true)
-
-pub returns-then-over-eq0 : goal.returns-then-over-eq0
-returns-then-over-eq0 c = rw c.if-over-eq0.true (sym (scaled_over_none c.args.z c.args.by))
+    let far : leb (nat_abs c.args.z) 10000000000 ≡ c.within.result = sym (rw (to_z-of_z c.ranges.z) at c.within.ensures) in
+    sym
+    (elim c.then-not-within.branch [
+      | then-not-within-via-then-not-within w ↦ scaled_far c.args.z c.args.by c.args.over (leb-false _ _ (far ∙ w.if-not-within.true))
+      | then-not-within-via-else-not-within+then-by-gt900000000 w ↦ scaled_wide c.args.z c.args.by c.args.over w.if-by-gt900000000.true
+      | then-not-within-via-else-not-within+else-by-gt900000000+then-over-eq0 w ↦ rw w.if-over-eq0.true (scaled_over_none c.args.z c.args.by)
+    ])
 
 in_reach : (z : ℤ) (by over k m : ℕ) (near : Bool) → SFits w64 z → near ≡ leb (nat_abs (to_z w64 (of_z w64 z))) 10000000000 → near ≡ true → by ≤ 900000000 → 0 < over → over < 2 ^ 32 → k ≡ nat_abs (to_z w64 (of_z w64 z)) → m ≡ rounded_of (k * by / over) (k * by % over) over → InReach z by over k m
 in_reach z by over k m near f test e narrow some small same is =
@@ -76,14 +76,14 @@ in_reach z by over k m near f test e narrow some small same is =
 
 pub returns-then-is_negative : goal.returns-then-is_negative
 returns-then-is_negative c =
-    let reach = in_reach c.args.z c.args.by c.args.over c.magnitude.result c.rounded-m.result c.within.result c.ranges.z c.within.ensures c.if-not-within.false c.if-by-gt900000000.false (omega arith) c.ranges.over.fits c.magnitude.ensures c.rounded-m.ensures in
-    let sign = rw (to_z-of_z c.ranges.z) at c.is_negative.ensures in
+    let reach = in_reach c.args.z c.args.by c.args.over c.magnitude.result c.rounded-m.result c.within.result c.ranges.z c.within.ensures c.if-not-within.false c.if-by-gt900000000.false (omega arith) c.ranges.over.fits c.magnitude.ensures (simp (c.from.ensures, c.from-d.ensures) at c.rounded-m.ensures) in
+    let sign : c.is_negative.result ≡ lt_z c.args.z (pos 0) = c.is_negative.ensures ∙ ap (λ (v : ℤ). lt_z v (pos 0)) (to_z-of_z c.ranges.z) in
     wire c.debit.result c.debit.type_inv ∙ c.debit.ensures ∙
     to_the_bad c.args.z c.args.by c.args.over c.magnitude.result c.rounded-m.result reach (sym sign ∙ c.if-is_negative.true)
 
 pub returns-else-is_negative : goal.returns-else-is_negative
 returns-else-is_negative c =
-    let reach = in_reach c.args.z c.args.by c.args.over c.magnitude.result c.rounded-m.result c.within.result c.ranges.z c.within.ensures c.if-not-within.false c.if-by-gt900000000.false (omega arith) c.ranges.over.fits c.magnitude.ensures c.rounded-m.ensures in
-    let sign = rw (to_z-of_z c.ranges.z) at c.is_negative.ensures in
+    let reach = in_reach c.args.z c.args.by c.args.over c.magnitude.result c.rounded-m.result c.within.result c.ranges.z c.within.ensures c.if-not-within.false c.if-by-gt900000000.false (omega arith) c.ranges.over.fits c.magnitude.ensures (simp (c.from.ensures, c.from-d.ensures) at c.rounded-m.ensures) in
+    let sign : c.is_negative.result ≡ lt_z c.args.z (pos 0) = c.is_negative.ensures ∙ ap (λ (v : ℤ). lt_z v (pos 0)) (to_z-of_z c.ranges.z) in
     wire c.credit.result c.credit.type_inv ∙ c.credit.ensures ∙
     to_the_good c.args.z c.args.by c.args.over c.magnitude.result c.rounded-m.result reach (sym sign ∙ c.if-is_negative.false)

@@ -1,7 +1,8 @@
 -- Each outage that goes through is listed, and the first that fails is told.
-use Rattle.std.proofs.Common.{◌+◌, subst, sym, ap, ◌∙◌}
+use Rattle.std.proofs.Common.{◌≡◌, ◌+◌, subst, sym, ap, ◌∙◌, Err, rules}
 use Rattle.std.proofs.Math.ListN.{replicate, set}
-use Rattle.refusals.specs.Refusals.{answer_number, first_applicable}
+use Rattle.refusals.specs.Refusals.{answer_number, first_applicable, refusal_number}
+use Rattle.refusals.specs.declared.RefusedAt.{RefusedAt}
 use Rattle.entries.specs.declared.Entry.{Entry}
 use Rattle.plan.specs.Calls.{outage_rows}
 use Rattle.plan.proofs.Lists.{Lists, none_listed, one_listed, gives_failed, gives_all}
@@ -12,19 +13,27 @@ loop-k-init c =
     let a = c.args in
     none_listed a.regime_end a.plan c.requires.0 c.requires.1 _ (ap (replicate 400) c.zero-entries.ensures)
 
-pub returns-in-Refused : goal.returns-in-Refused
-returns-in-Refused c =
+pub returns-in_err-map_err : goal.returns-in_err-map_err
+returns-in_err-map_err c =
     let a = c.args in
-    rw c.refused.ensures
-    (gives_failed a.regime_end a.plan c.requires.0 c.requires.1 c.loop-k.invariant c.loop-k-test.true c.in-Refused.why
-    (sym (ap answer_number c.in-Refused.is) ∙ c.outage_answer-answer.ensures ∙ ap (λ (e : Entry). first_applicable (outage_rows a.regime_end e)) c.outage-e.ensures))
+    let x = c.in_err-map_err.field-0.0 in
+    let e : c.from_residual.result ≡ Err x = search rules in
+    let n : refusal_number x.why ≡ answer_number c.check_outage.result = search rules in
+    let k : x.at ≡ c.loop-k.k + 1 = search rules in
+    rw (e, k)
+    (gives_failed a.regime_end a.plan c.requires.0 c.requires.1 c.loop-k.invariant c.loop-k-test.true x.why
+    (n ∙ c.check_outage.ensures ∙ ap (λ (e : Entry). first_applicable (outage_rows a.regime_end e)) c.outage-e.ensures))
 
 pub loop-k-preserved : goal.loop-k-preserved
 loop-k-preserved c =
     let a = c.args in
-    subst (λ (e : Entry). Lists a.regime_end a.plan (set c.loop-k.entries c.loop-k.k e) (c.loop-k.k + 1)) (sym c.outage-e.ensures)
+    let n : answer_number c.check_outage.result ≡ 0 = search rules in
+    rw (c.from-slot.ensures, c.outage-e.ensures)
     (one_listed a.regime_end a.plan c.requires.0 c.requires.1 c.loop-k.invariant c.loop-k-test.true
-    (ap (λ (e : Entry). first_applicable (outage_rows a.regime_end e)) (sym c.outage-e.ensures) ∙ sym c.outage_answer-answer.ensures ∙ ap answer_number c.in_default.is))
+    (ap (λ (e : Entry). first_applicable (outage_rows a.regime_end e)) (sym c.outage-e.ensures) ∙ sym c.check_outage.ensures ∙ n))
 
 pub returns : goal.returns
-returns c = gives_all c.args.regime_end c.args.plan c.requires.0 c.requires.1 c.loop-k.invariant c.loop-k-test.false
+returns c =
+    let a = c.args in
+    rw c.from.ensures
+    (gives_all a.regime_end a.plan c.requires.0 c.requires.1 c.loop-k.invariant c.loop-k-test.false)

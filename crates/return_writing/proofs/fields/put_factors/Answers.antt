@@ -10,7 +10,7 @@ use Rattle.return_writing.proofs.fields.put_factors.Goals as goal
 pub returns : goal.returns
 returns c =
     let a = c.args in
-    let written : is_left_out a.year (a.pyc, a.pyf) ≡ false = sym c.are_left_out.ensures ∙ c.if-are_left_out.false in
+    let written : is_left_out a.year (a.f.pyc, a.f.pyf) ≡ false = sym c.are_left_out.ensures ∙ c.if-are_left_out.false in
     put_in written
-    (factors_laid a.year (a.pyc, a.pyf) (omega (arith, c.requires, some_size (field_of 5 (factors_value a.year) (a.pyc, a.pyf)) written))
+    (factors_laid a.year (a.f.pyc, a.f.pyf) (omega (arith, c.requires, some_size (field_of 5 (factors_value a.year) (a.f.pyc, a.f.pyf)) written))
     c.put_head-p.ensures c.put-q.ensures c.put.ensures)

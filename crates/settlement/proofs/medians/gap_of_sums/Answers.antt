@@ -6,8 +6,8 @@ use Rattle.settlement.proofs.medians.gap_of_sums.Goals as goal
 pub returns-then-end-start : goal.returns-then-end-start
 returns-then-end-start c = simp (gap_early c.args.earlier c.args.later (omega arith)) search rules
 
-pub returns-then-n-gt499 : goal.returns-then-n-gt499
-returns-then-n-gt499 c = simp (gap_is c.args.earlier c.args.later (omega arith), too_long _ c.if-n-gt499.true) search rules
+pub returns-then-n-gt-MOST_HUNDREDTHS : goal.returns-then-n-gt-MOST_HUNDREDTHS
+returns-then-n-gt-MOST_HUNDREDTHS c = simp (gap_is c.args.earlier c.args.later (omega arith), too_long _ c.if-n-gt-MOST_HUNDREDTHS.true) search rules
 
 pub returns : goal.returns
-returns c = simp (gap_is c.args.earlier c.args.later (omega arith), allowed _ c.if-n-gt499.false) search rules
+returns c = simp (gap_is c.args.earlier c.args.later (omega arith), allowed _ c.if-n-gt-MOST_HUNDREDTHS.false) search rules

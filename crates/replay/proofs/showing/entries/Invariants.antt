@@ -1,6 +1,0 @@
--- The slots that are still to be printed.
-use Rattle.std.proofs.Common.{◌-◌}
-use Rattle.replay.proofs.showing.entries.Given as goal
-
-abbrev pub decreases-loop-i : goal.decreases-loop-i
-decreases-loop-i g l = 400 - l.i
