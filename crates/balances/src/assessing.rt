@@ -6,7 +6,7 @@ ghost use Rattle.balances.specs.Assessment.{figures_of, good_rows, assessable, h
 ghost use Rattle.balances.specs.Steps.{Bounded, found_figures, found_rows};
 
 use super::carrying::balance_of;
-use money::{is_negative, minus, within};
+use money::{below, is_negative, minus, within};
 use refusals::Refusal;
 
 // What the years of an assessment period bring: index, assessed revenue, cap and floor level, within-period adjustment. An
@@ -113,7 +113,7 @@ fn can_be_assessed(y: Yearly, n: usize) -> bool
 fn held_between(revenue: i64, floor: i64, cap: i64) -> i64
     ensures { result ≡ held_between revenue floor cap }
 {
-    if revenue < floor {
+    if below(revenue, floor) {
         return floor;
     }
     revenue.min(cap)
@@ -153,7 +153,7 @@ fn found(
     let cap = cap.ok_or(Refusal::TooLarge)?;
     let floor = floor.ok_or(Refusal::TooLarge)?;
     let paid = paid.ok_or(Refusal::TooLarge)?;
-    if cap < floor {
+    if below(cap, floor) {
         return Err(Refusal::FloorAboveCap);
     }
     Ok(figures_of(revenue, cap, floor, paid))

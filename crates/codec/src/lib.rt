@@ -43,7 +43,7 @@ pub fn number(s: &[u8], at: usize, n: usize) -> u64
 pub fn is_field(s: &[u8], at: usize, tag: u8, len: usize) -> bool
     ensures { result ≡ framed tag len (drop at s.now) }
 {
-    if s.len().saturating_sub(at) < 3 {
+    if s.len() < at || s.len() - at < 3 {
         return false;
     }
     s[at] == tag && number(s, at + 1, 2) == len as u64 && len <= s.len() - at - 3

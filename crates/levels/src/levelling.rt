@@ -59,18 +59,18 @@ fn aif(met: bool, exceptional: bool, miss_factor: u16) -> u16
 }
 
 // The cap of a year that is in range, SC2 4(a).
-fn cap_of(book: Book, y: Year) -> i64
-    requires { (good_book book ≡ true) × (good_year y ≡ true) }
-    ensures { result ≡ cap_level book y }
+fn cap_of(book: Book, y: &Year) -> i64
+    requires { (good_book book ≡ true) × (good_year y.now ≡ true) }
+    ensures { result ≡ cap_level book y.now }
 {
     let sum = sum_of(book.pcl, book.pcac, book.orac);
     level(y.pyc, sum, y.aic, y.pppi)
 }
 
 // The floor of a year that is in range, SC2 4(b).
-fn floor_of(book: Book, y: Year, met: bool) -> i64
-    requires { (good_book book ≡ true) × (good_year y ≡ true) }
-    ensures { result ≡ floor_level book y (aif_of met y.exceptional book.miss_factor) }
+fn floor_of(book: Book, y: &Year, met: bool) -> i64
+    requires { (good_book book ≡ true) × (good_year y.now ≡ true) }
+    ensures { result ≡ floor_level book y.now (aif_of met y.now.exceptional book.miss_factor) }
 {
     let sum = sum_of(book.pfl, book.pcaf, book.oraf);
     let incentive = aif(met, y.exceptional, book.miss_factor);
@@ -83,8 +83,8 @@ pub fn levels_of(book: Book, y: Year, log: Log) -> Result<Levels, Refusal>
 {
     let met = check_target(book, log, y.number)?;
     check_year(y)?;
-    let cap = cap_of(book, y);
-    let floor = floor_of(book, y, met);
+    let cap = cap_of(book, &y);
+    let floor = floor_of(book, &y, met);
     if !within(cap, Levels::MOST) || !within(floor, Levels::MOST) {
         return Err(Refusal::TooLarge);
     }

@@ -12,6 +12,7 @@ use plan::Plan;
 use refusals::{Refusal, RefusedAt};
 
 // The message of a plan: its one field, and its sizes.
+#[derive(Clone, Copy, Debug, PartialEq, Eq)]
 pub struct PlanMessage;
 
 impl PlanMessage {

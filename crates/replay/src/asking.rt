@@ -1,24 +1,19 @@
 // The calls on log, book and year, each with its answer.
 ghost use Rattle.std.specs.Prelude.{◌≤◌};
 
+use super::beside::{log_or_last, minutes_or_zero};
 use super::desk::Desk;
 use super::fields::{cause_at, entry_at, i64_at, period_at, u8_at, u32_at};
 use super::{say, sums};
 use assessment::assess_period;
 use balances::{Figures, Yearly, assess};
-use calendar::{YearMinutes, year_minutes};
+use calendar::year_minutes;
 use levels::{Levels, availability_of, check_target, levels_of};
-use outage::{Entry, Key, Log, lost_energy};
+use outage::{Key, Log, lost_energy};
 use refusals::{Refusal, answer_number};
 use settlement::{gap_between, growth_at, pay};
 use std::io;
 use year::Year;
-
-// The empty log for a regime end, to the last one where this is none.
-pub(crate) fn empty_log(regime_end: u32) -> Log {
-    let last = Log::made([Entry::zero(); Log::SLOTS], 0, Log::LAST_REGIME_END);
-    Log::empty(regime_end).unwrap_or(last)
-}
 
 // Says what a call on the log gave: its number, and the count and the sum of the log.
 fn logged(rt: &impl Print, n: u8, log: &Log) -> io::Result<()> {
@@ -26,9 +21,9 @@ fn logged(rt: &impl Print, n: u8, log: &Log) -> io::Result<()> {
 }
 
 pub(crate) fn empty(rt: &impl Print, s: &[u8], log: &mut Log) -> io::Result<()> {
-    let regime_end = u32_at(s, 0);
-    *log = empty_log(regime_end);
-    logged(rt, answer_number(Log::empty(regime_end)), log)
+    let made = Log::empty(u32_at(s, 0));
+    *log = log_or_last(made);
+    logged(rt, answer_number(made), log)
 }
 
 pub(crate) fn enter(rt: &impl Print, s: &[u8], log: &mut Log) -> io::Result<()> {
@@ -57,7 +52,7 @@ pub(crate) fn lost(rt: &impl Print, s: &[u8], log: &Log) -> io::Result<()> {
 pub(crate) fn minutes(rt: &impl Print, s: &[u8]) -> io::Result<()> {
     let found = year_minutes(u8_at(s, 0), u32_at(s, 1));
     let n = answer_number(found);
-    let minutes = found.unwrap_or(YearMinutes { first: 0, end: 0 });
+    let minutes = minutes_or_zero(found);
     println!(rt; "{n} {} {}", minutes.first, minutes.end)
 }
 

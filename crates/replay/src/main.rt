@@ -2,6 +2,7 @@
 #![tactic(auto)]
 
 mod asking;
+mod beside;
 mod bits;
 mod calls;
 mod desk;
@@ -42,7 +43,7 @@ fn main(rt: HostRuntime) -> io::Result<()> {
     let years = [Year::fresh(); 5];
     let buffer = [0; KEPT];
     let desk = Desk {
-        log: asking::empty_log(Log::LAST_REGIME_END),
+        log: Log::empty_or_last(Log::LAST_REGIME_END),
         book: Book::published(),
         years,
         buffer,

@@ -1,11 +1,12 @@
 // Plans listed, entered, read and written.
 ghost use Rattle.std.specs.Prelude.{◌≤◌};
 
+use super::beside::{listed_or_none, plan_or_zero};
 use super::desk::KEPT;
 use super::fields::{cause_at, u16_at, u32_at};
 use super::{returns, say, sums};
-use outage::{Entry, Log};
-use plan::{Listed, Plan, list_plan};
+use outage::Log;
+use plan::{Plan, list_plan};
 use plan_entering::enter_plan;
 use plan_message::{read_plan, write_plan};
 use std::io;
@@ -28,8 +29,7 @@ fn plan_at(s: &[u8], at: usize, end: usize) -> Plan
 pub(crate) fn list(rt: &impl Print, s: &[u8]) -> io::Result<()> {
     let found = list_plan(u32_at(s, 0), plan_at(s, 4, s.len()));
     let (n, outage) = say::number_at(found);
-    let entries = [Entry::zero(); Plan::MOST_OUTAGES];
-    let listed = found.unwrap_or(Listed { entries, count: 0 });
+    let listed = listed_or_none(found);
     let sum = sums::more_of_entries(0, &listed.entries);
     println!(rt; "{n} {outage} {} {sum}", listed.count)
 }
@@ -42,7 +42,7 @@ pub(crate) fn enter(rt: &impl Print, s: &[u8], log: &mut Log) -> io::Result<()> 
 pub(crate) fn read(rt: &impl Print, s: &[u8]) -> io::Result<()> {
     let read = read_plan(s);
     let (n, at) = say::number_at(read);
-    let plan = read.unwrap_or(Plan::zero());
+    let plan = plan_or_zero(read);
     print!(rt; "{n} {at} {} {} {}", plan.start, plan.length, plan.step)?;
     println!(rt; " {} {} {}", plan.count, plan.mw, plan.cause)
 }

@@ -1,6 +1,7 @@
 // Returns read and written.
 ghost use Rattle.std.specs.Prelude.{◌≡◌, length};
 
+use super::beside::{text_or_empty, year_or_fresh};
 use super::desk::KEPT;
 use super::fields::{ROOM, behind, u16_at, u32_at};
 use super::{say, sums};
@@ -17,7 +18,7 @@ use year::Year;
 pub(crate) fn read(rt: &impl Print, s: &[u8]) -> io::Result<Year> {
     let read = read_return(s);
     let (n, at) = say::number_at(read);
-    let y = read.unwrap_or(Year::fresh());
+    let y = year_or_fresh(read);
     println!(rt; "{n} {at} {}", sums::of_year(&y))?;
     Ok(y)
 }
@@ -88,7 +89,7 @@ pub(crate) fn refile_kept(rt: &impl Print, s: &[u8], kept: &[u8]) -> io::Result<
 // A text, empty beside a refusal: its length and its sum.
 pub(crate) fn printed(rt: &impl Print, found: Result<Text, Refusal>) -> io::Result<()> {
     let n = answer_number(found);
-    let text = found.unwrap_or(Text::empty());
+    let text = text_or_empty(found);
     let length = text.length.min(Text::ROOM);
     println!(rt; "{n} {length} {}", sums::of_bytes(&text.bytes[..length]))
 }

@@ -1,10 +1,16 @@
 // Answers on standard output: a line of decimal numbers each.
+ghost use Rattle.std.specs.Prelude.{◌≡◌};
+ghost use Rattle.refusals.specs.Refusals.{answer_number, part_number, why_alone};
+
 use refusals::{Refusal, RefusedAt, answer_number};
 use std::fmt::Display;
 use std::io;
 
 // The number of an answer, and of the part at which it is refused, 0 where it is not.
-pub(crate) fn number_at<T: Drop>(answer: Result<T, RefusedAt>) -> (u8, usize) {
+pub(crate) fn number_at<T: Drop>(answer: Result<T, RefusedAt>) -> (u8, usize)
+    ensures number { result.0 ≡ answer_number (why_alone answer) }
+    ensures part { result.1 ≡ part_number answer }
+{
     match answer {
         Ok(_) => (0, 0),
         Err(refused) => (refused.why.number(), refused.at),

@@ -1,5 +1,5 @@
 // Old day sheets read and written, and outages printed.
-use super::asking::empty_log;
+use super::beside::log_or_empty;
 use super::desk::KEPT;
 use super::fields::{entry_at, u32_at};
 use super::{returns, say, sums};
@@ -14,7 +14,7 @@ use std::io;
 pub(crate) fn read(rt: &impl Print, regime_end: u32, s: &[u8]) -> io::Result<Log> {
     let read = read_sheet(regime_end, s);
     let (n, at) = say::number_at(read);
-    let log = read.unwrap_or(empty_log(regime_end));
+    let log = log_or_empty(read, regime_end);
     println!(rt; "{n} {at} {} {}", log.count, sums::more_of_log(0, &log))?;
     Ok(log)
 }

@@ -1,6 +1,7 @@
 // Periods and cells of a workbook: made, exported, read, printed and filled.
 ghost use Rattle.std.specs.Prelude.{◌≤◌};
 
+use super::beside::{cells_or_zero, period_or_zero, slots_or_empty};
 use super::bits::{bits_of, float_at};
 use super::fields::{i64_at, u8_at, u32_at};
 use super::{returns, say};
@@ -10,7 +11,7 @@ use codec::number;
 use median_period::{MedianPeriod, gap_of_medians, make_period};
 use refusals::{Refusal, answer_number};
 use std::io;
-use workbook_cells::{CellsRead, export_period, read_cells};
+use workbook_cells::{export_period, read_cells};
 use workbook_filling::fill_workbook;
 
 // A period of three floats, from `at` on.
@@ -37,7 +38,7 @@ fn say_period(rt: &impl Print, p: MedianPeriod) -> io::Result<()> {
 pub(crate) fn make(rt: &impl Print, s: &[u8]) -> io::Result<()> {
     let made = make_period(u32_at(s, 0), u32_at(s, 4));
     print!(rt; "{}", answer_number(made))?;
-    say_period(rt, made.unwrap_or(MedianPeriod::zero()))
+    say_period(rt, period_or_zero(made))
 }
 
 pub(crate) fn gap(rt: &impl Print, s: &[u8]) -> io::Result<()> {
@@ -72,7 +73,7 @@ fn say_cell(rt: &impl Print, cell: Cell) -> io::Result<()> {
 // Says what an export gave: the number, and each cell, an empty one beside a refusal.
 fn exported(rt: &impl Print, done: Result<[Slot; Slot::CELLS], Refusal>) -> io::Result<()> {
     print!(rt; "{}", answer_number(done))?;
-    let slots = done.unwrap_or([Slot { cell: Cell::Empty }; Slot::CELLS]);
+    let slots = slots_or_empty(done);
     for slot in &slots {
         say_cell(rt, slot.cell)?;
     }
@@ -105,9 +106,7 @@ fn slots_at(s: &[u8]) -> [Slot; Slot::CELLS] {
 pub(crate) fn read(rt: &impl Print, s: &[u8]) -> io::Result<()> {
     let found = read_cells(slots_at(s));
     let (n, index) = say::number_at(found);
-    let amounts = [0; Slot::AMOUNTS];
-    let period = MedianPeriod::zero();
-    let read = found.unwrap_or(CellsRead { amounts, period });
+    let read = cells_or_zero(found);
     print!(rt; "{n} {index}")?;
     for z in &read.amounts {
         print!(rt; " {z}")?;

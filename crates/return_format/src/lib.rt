@@ -8,6 +8,7 @@ use refusals::{Refusal, RefusedAt};
 use year::Year;
 
 // The yearly return.
+#[derive(Clone, Copy, Debug, PartialEq, Eq)]
 pub struct Return;
 
 // The partial-year factors for cap and floor, PYC and PYF.

@@ -47,8 +47,8 @@ pub(crate) fn put_wpa(out: &mut [u8], at: usize, paid: i64) -> usize
 }
 
 // What the factors, the mark and the adjustment take.
-fn size_of_rest(y: Year) -> usize
-    ensures { (result ≡ rest_size y) × (result ≤ 22) }
+fn size_of_rest(y: &Year) -> usize
+    ensures { (result ≡ rest_size y.now) × (result ≤ 22) }
 {
     let f = Factors {
         pyc: y.pyc,
@@ -61,9 +61,9 @@ fn size_of_rest(y: Year) -> usize
 }
 
 // How many bytes the return of a year has whose outages take so many.
-pub(crate) fn size_of(y: Year, outages: usize) -> usize
-    requires { (y.line_count ≤ line_slots) × (outages ≤ most_entry_bytes * slots) }
-    ensures { result ≡ 23 + (13 * y.line_count + (outages + rest_size y)) }
+pub(crate) fn size_of(y: &Year, outages: usize) -> usize
+    requires { (y.now.line_count ≤ line_slots) × (outages ≤ most_entry_bytes * slots) }
+    ensures { result ≡ 23 + (13 * y.now.line_count + (outages + rest_size y.now)) }
 {
     23 + (13 * y.line_count + (outages + size_of_rest(y)))
 }

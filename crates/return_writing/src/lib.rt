@@ -20,9 +20,9 @@ use rows::{put_lines, put_outages, size_of_outages};
 use year::Year;
 
 // The four required fields.
-fn put_required(y: Year, out: &mut [u8]) -> usize
-    requires { length (required.write (y.number, (y.pppi, (y.rate, y.aic)))) ≤ length out.old }
-    ensures { Wrote out.old 0 (required.write (y.number, (y.pppi, (y.rate, y.aic)))) out.new result }
+fn put_required(y: &Year, out: &mut [u8]) -> usize
+    requires { length (required.write (y.now.number, (y.now.pppi, (y.now.rate, y.now.aic)))) ≤ length out.old }
+    ensures { Wrote out.old 0 (required.write (y.now.number, (y.now.pppi, (y.now.rate, y.now.aic)))) out.new result }
 {
     let a = put_number(out, 0, Return::YEAR, 1, y.number as u64);
     let b = put_number(out, a, Return::PPPI, 4, y.pppi as u64);
@@ -39,7 +39,7 @@ fn put_year(y: Year, out: &mut [u8]) -> usize
         pyc: y.pyc,
         pyf: y.pyf,
     };
-    let a = put_required(y, out);
+    let a = put_required(&y, out);
     let b = put_factors(out, a, y.number, f);
     let c = put_lines(out, b, &y.lines[..y.line_count]);
     let d = put_outages(out, c, &y.log.entries[..y.log.count]);
@@ -53,7 +53,7 @@ pub fn write_return(y: Year, out: &mut [u8]) -> Result<usize, Refusal>
 {
     check_writable(y)?;
     let outages = size_of_outages(&y.log.entries[..y.log.count]);
-    let size = size_of(y, outages);
+    let size = size_of(&y, outages);
     if out.len() < size {
         return Err(Refusal::NoRoom);
     }

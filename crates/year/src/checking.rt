@@ -46,8 +46,8 @@ fn good_lines(lines: [Line; Year::LINES], count: usize) -> bool
 }
 
 // The year number, the index, the rate and the factors are in range.
-fn good_factors(y: Year) -> bool
-    ensures { result ≡ good_factors y.number y.pppi y.rate y.aic y.pyc y.pyf }
+fn good_factors(y: &Year) -> bool
+    ensures { result ≡ good_factors y.now.number y.now.pppi y.now.rate y.now.aic y.now.pyc y.now.pyf }
 {
     Year::FIRST <= y.number
         && y.number <= Year::LAST
@@ -64,7 +64,7 @@ fn good_factors(y: Year) -> bool
 pub fn check_year(y: Year) -> Result<(), Refusal>
     ensures { CheckYearGives y result }
 {
-    let good = good_factors(y)
+    let good = good_factors(&y)
         && within(y.wpa, Year::MOST_WPA)
         && good_lines(y.lines, y.line_count);
     if !good {

@@ -7,12 +7,15 @@ use Rattle.codec.specs.Leaves.{number_at}
 use Rattle.codec.proofs.Leaves.{number_there}
 use Rattle.codec.proofs.Numbers.{framed_short, framed_at}
 use Rattle.codec.proofs.is_field.Goals as goal
-use Rattle.codec.proofs.is_field.Goals.{then-s-at, else-s-at}
+use Rattle.codec.proofs.is_field.Goals.{then-s-at-via-then-s-at, then-s-at-via-else-s-at+then-s-at-lt3, then-s-at-2, else-s-at-2}
 
-pub returns-then-saturating_sub-lt3 : goal.returns-then-saturating_sub-lt3
-returns-then-saturating_sub-lt3 c =
+pub returns-then-s-at : goal.returns-then-s-at
+returns-then-s-at c =
     let a = c.args in
-    sym (framed_short a.tag a.len _ (simp length-drop (omega (arith, c.saturating_sub.ensures))))
+    elim c.then-s-at.branch [
+      | then-s-at-via-then-s-at w ↦ sym (framed_short a.tag a.len _ (simp length-drop (omega arith)))
+      | then-s-at-via-else-s-at+then-s-at-lt3 w ↦ sym (framed_short a.tag a.len _ (simp length-drop (omega arith)))
+    ]
 
 -- the three tests one after the other: v is what the first two give
 in_turn : (a b l v : Bool) {f : Bool} → f ≡ (a && (b && l)) → v ≡ (a && b) → f ≡ (v && l)
@@ -34,17 +37,17 @@ module _ (s : List ℕ) (at tag len : ℕ) {v : Bool} (h : at + 3 ≤ length s) 
 
 pub returns-then-number-len : goal.returns-then-number-len
 returns-then-number-len c =
-    let h : c.args.at + 3 ≤ length c.args.s.now = omega (arith, c.saturating_sub.ensures) in
-    elim c.if-s-at.branch [
-      | then-s-at w ↦ rw (c.if-number-len.true) at (sym (right c.args.s.now c.args.at c.args.tag c.args.len h w.if-s-at.true w.number.ensures w.value-is))
-      | else-s-at w ↦ rw (c.if-number-len.true) at (sym (wrong c.args.s.now c.args.at c.args.tag c.args.len h w.if-s-at.false w.value-is))
+    let h : c.args.at + 3 ≤ length c.args.s.now = omega arith in
+    elim c.if-s-at-2.branch [
+      | then-s-at-2 w ↦ rw (c.if-number-len.true) at (sym (right c.args.s.now c.args.at c.args.tag c.args.len h w.if-s-at-2.true w.number.ensures w.value-is))
+      | else-s-at-2 w ↦ rw (c.if-number-len.true) at (sym (wrong c.args.s.now c.args.at c.args.tag c.args.len h w.if-s-at-2.false w.value-is))
     ]
 
 pub returns-else-number-len : goal.returns-else-number-len
 returns-else-number-len c =
-    let h : c.args.at + 3 ≤ length c.args.s.now = omega (arith, c.saturating_sub.ensures) in
+    let h : c.args.at + 3 ≤ length c.args.s.now = omega arith in
     let e = c.if-number-len.false in
-    elim c.if-s-at.branch [
-      | then-s-at w ↦ e ∙ rw e at (sym (right c.args.s.now c.args.at c.args.tag c.args.len h w.if-s-at.true w.number.ensures w.value-is))
-      | else-s-at w ↦ e ∙ rw e at (sym (wrong c.args.s.now c.args.at c.args.tag c.args.len h w.if-s-at.false w.value-is))
+    elim c.if-s-at-2.branch [
+      | then-s-at-2 w ↦ e ∙ rw e at (sym (right c.args.s.now c.args.at c.args.tag c.args.len h w.if-s-at-2.true w.number.ensures w.value-is))
+      | else-s-at-2 w ↦ e ∙ rw e at (sym (wrong c.args.s.now c.args.at c.args.tag c.args.len h w.if-s-at-2.false w.value-is))
     ]

@@ -16,7 +16,7 @@ sum_of-sum-requires c =
 pub level-requires : goal.level-requires
 level-requires c =
     let b = c.args.book in
-    let y = year_says c.args.y c.requires.1 in
+    let y = year_says c.args.y.now c.requires.1 in
     let h = (book_says b c.requires.0).cap in
     let sum : c.sum_of-sum.result ≡ cap_sum b = rw (wire_small b.pcl h.level, wire_small b.pcac h.built, wire_small b.orac h.run) at c.sum_of-sum.ensures in
-    rw (wire c.sum_of-sum.result c.sum_of-sum.type_inv, sum) (y.pyc, h.all, y.aic, pppi_most c.args.y.pppi y.pppi)
+    rw (wire c.sum_of-sum.result c.sum_of-sum.type_inv, sum) (y.pyc, h.all, y.aic, pppi_most c.args.y.now.pppi y.pppi)

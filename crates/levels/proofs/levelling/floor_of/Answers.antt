@@ -17,8 +17,8 @@ pub level-requires : goal.level-requires
 level-requires c =
     let b = c.args.book in
     let says = book_says b c.requires.0 in
-    let y = year_says c.args.y c.requires.1 in
+    let y = year_says c.args.y.now c.requires.1 in
     let h = says.floor in
     let sum : c.sum_of-sum.result ≡ floor_sum b = rw (wire_small b.pfl h.level, wire_small b.pcaf h.built, wire_small b.oraf h.run) at c.sum_of-sum.ensures in
     rw (wire c.sum_of-sum.result c.sum_of-sum.type_inv, sum)
-    (y.pyf, h.all, omega (arith, c.aif-incentive.ensures, aif_most c.args.met c.args.y.exceptional b.miss_factor says.factor), pppi_most c.args.y.pppi y.pppi)
+    (y.pyf, h.all, omega (arith, c.aif-incentive.ensures, aif_most c.args.met c.args.y.now.exceptional b.miss_factor says.factor), pppi_most c.args.y.now.pppi y.pppi)

@@ -1,5 +1,5 @@
 -- What the calls on the way answered makes the levels.
-use Rattle.std.proofs.Common.{rules, ◌≡◌, ◌∙◌, sym, false, true, Err, refl}
+use Rattle.std.proofs.Common.{rules, ◌≡◌, ◌∙◌, sym, false, Err, refl}
 use Rattle.money.proofs.Pounds.{wire}
 use Rattle.year.specs.Year.{good_year}
 use Rattle.year.proofs.Says.{checked_bad, checked_good}

@@ -8,7 +8,7 @@ use Rattle.return_writing.proofs.fields.size_of_rest.Goals.{then-are_left_out, e
 
 pub returns : goal.returns
 returns c =
-    let y = c.args.y in
+    let y = c.args.y.now in
     let f : ℕ × ℕ = (y.pyc, y.pyf) in
     let bs = field_of 5 (factors_value y.number) f in
     let z = y.wpa in
